@@ -1,0 +1,5 @@
+pub mod Code
+pub mod Sums
+pub mod Solving
+pub mod Single
+pub mod Double
