@@ -1,0 +1,4 @@
+pub mod Plane
+pub mod Meaning
+pub mod Stores
+pub mod Faults
