@@ -1,0 +1,10 @@
+pub mod Coding
+pub mod ByteLaws
+pub mod Log
+pub mod Row
+pub mod Verdict
+pub mod Rules
+pub mod Ledger
+pub mod Runs
+pub mod Promise
+pub mod Samples
