@@ -1,0 +1,3 @@
+pub mod Dead
+pub mod Endings
+pub mod Steps

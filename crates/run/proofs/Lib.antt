@@ -1,0 +1,4 @@
+pub mod Sizes
+pub mod Work
+pub mod Making
+pub mod Keeping

@@ -1,0 +1,3 @@
+pub mod Ending
+pub mod Finishing
+pub mod Switching
