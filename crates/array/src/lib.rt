@@ -1,4 +1,6 @@
 // The array: blocks spread over the disks of a backplane with their checks, and a log from which an interrupted store is finished.
+#![tactic(auto)]
+
 pub mod array;
 pub mod clear;
 pub mod format;

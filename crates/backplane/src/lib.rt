@@ -1,4 +1,6 @@
 // A backplane: slots for disks, log cells, and the power. All array code is written over any type that keeps this meaning.
+#![tactic(auto)]
+
 ghost use Rattle.std.specs.Prelude.{◌≡◌, true, []};
 ghost use Rattle.backplane.specs.Plane.{to_block, to_cell, pulled, switched};
 ghost use Rattle.backplane.specs.Meaning.{Bytes, Stored, Read, Fitted, Sound};

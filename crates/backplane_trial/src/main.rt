@@ -1,4 +1,6 @@
 // The exercise of every backplane, on the memory backplane and on fuses over it, and each layer's own edges.
+#![tactic(auto)]
+
 ghost use Rattle.std.specs.Prelude.{◌≤◌, length};
 
 use backplane::Backplane;

@@ -1,4 +1,6 @@
 // Codes: check bytes for the data bytes of a row, so that lost bytes can be solved.
+#![tactic(auto)]
+
 mod code;
 mod double;
 mod row;

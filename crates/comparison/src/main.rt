@@ -1,4 +1,6 @@
 // Compares the product with an independent implementation on very many inputs, and says what it went through.
+#![tactic(auto)]
+
 mod array_part;
 mod codes_part;
 mod reference;

@@ -1,4 +1,6 @@
 // Worked examples, run: the numbers are worked out by hand.
+#![tactic(auto)]
+
 use faults::fault::ArrayFault;
 
 // 0 for a call that is done, else the number and the first detail of its refusal.

@@ -1,4 +1,6 @@
 // The field of 256 elements over the polynomial 0x11D, by stored tables of powers and exponents.
+#![tactic(auto)]
+
 ghost use Rattle.std.specs.Prelude.{◌≡◌, ℕ, ◌+◌, ◌%◌, ◌<◌};
 ghost use Rattle.field.specs.Field.{doubled, exp, log, log_of, times, reciprocal, inverse_of, quotient_of, polynomial};
 ghost use Rattle.field.specs.Laws.{FieldLaws, Order255};

@@ -1,4 +1,6 @@
 // A layer over any backplane that cuts the power at a set store.
+#![tactic(auto)]
+
 ghost use Rattle.std.specs.Prelude.{◌≡◌, ◌≤◌, min, true, false, leb, [], length, if◌then◌else◌, Some, None};
 ghost use Rattle.backplane.specs.Plane.{to_block, to_cell, pulled, switched};
 ghost use Rattle.backplane.specs.Meaning.{Stored, Read, Fitted};

@@ -1,4 +1,6 @@
 // The formats: blocks and numbers in bytes, the places of stripes, cell 0, and the heads of log records.
+#![tactic(auto)]
+
 pub mod blocks;
 pub mod head;
 pub mod header;

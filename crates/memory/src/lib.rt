@@ -1,4 +1,6 @@
 // A backplane that lies in lent bytes. It never cuts a store.
+#![tactic(auto)]
+
 ghost use Rattle.std.specs.Prelude.{◌≡◌, ◌+◌, ◌*◌, ◌<◌, ◌≤◌, true, [], length, replicate};
 ghost use Rattle.backplane.specs.Plane.{to_block, to_cell, pulled, switched};
 ghost use Rattle.backplane.specs.Meaning.{Stored, Read, Fitted};

@@ -1,4 +1,6 @@
 // The rules of the array as definitions, which the contracts of the calls cite, and the promise that holds of every run by them.
+#![tactic(auto)]
+
 ghost use Rattle.model.specs.Promise.{Promise, Promised, FormatRight, FormatDone};
 
 use codes::Code;

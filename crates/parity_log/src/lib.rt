@@ -1,4 +1,6 @@
 // The log as it stands in the cells: its walk, its pending records, and what they mean for the row of a stripe.
+#![tactic(auto)]
+
 pub mod owing;
 pub mod pending;
 pub mod walk;

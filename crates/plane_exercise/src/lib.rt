@@ -1,4 +1,6 @@
 // One exercise for every backplane: each operation at its edges, with the answers counted.
+#![tactic(auto)]
+
 ghost use Rattle.std.specs.Prelude.{◌≡◌, ◌+◌, ◌<◌};
 ghost use Rattle.plane_exercise.specs.Tallies.{total, noted, SameSizes, Tried};
 

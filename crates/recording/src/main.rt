@@ -1,5 +1,7 @@
 // Takes a recording through the codes and through a week on an array. First it is spread over columns, as many of them as there are checks are lost
 // in every combination and restored, and the recording is compared with the one that came in. Then it goes into an array, with all that may happen there.
+#![tactic(auto)]
+
 mod checks;
 mod columns;
 mod combinations;

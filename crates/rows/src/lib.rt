@@ -1,4 +1,6 @@
 // The row of a stripe: shares of deltas, lost columns, pending sums, and solving in lent work bytes.
+#![tactic(auto)]
+
 pub mod lost;
 mod pending;
 pub mod row;

@@ -1,4 +1,6 @@
 // Worked examples: what the functions answer, and that the definitions of their contracts say the same.
+#![tactic(auto)]
+
 ghost use Rattle.std.specs.Prelude.{◌≡◌, [], ◌∷◌};
 ghost use Rattle.samples.specs.Samples.{Samples};
 

@@ -1,4 +1,6 @@
 // Appending to the log: a block is written with its record, and a stripe is folded into a parity record.
+#![tactic(auto)]
+
 mod places;
 mod record;
 mod row;
