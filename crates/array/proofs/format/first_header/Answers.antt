@@ -6,7 +6,7 @@ use Rattle.array.proofs.format.first_header.Goals as goal
 pub loop-d-preserved : goal.loop-d-preserved
 loop-d-preserved c = (
   search rules,
-  rw c.first-good.ensures (fill_by_more (λ (d : ℕ). cond (ltb d c.args.slots) c.args.blocks 0) c.loop-d.good c.loop-d.d 0 (omega arith) c.loop-d.invariant.1),
+  rw c.first_good.ensures (fill_by_more (λ (d : ℕ). cond (ltb d c.args.slots) c.args.blocks 0) c.loop-d.good c.loop-d.d 0 (omega arith) c.loop-d.invariant.1),
 )
 
 pub returns : goal.returns

@@ -10,9 +10,9 @@ unfolding solved_two
 returns c =
     let k = c.args.k in
     let lost = c.args.lost.now in
-    let d = c.fill-data.new.row in
-    let s = c.sum-of.result in
-    let t = c.weighted-of.result in
-    c.put-lost.ensures
-    ∙ remade-same (λ r. get_or (s ∷ t ∷ []) r 0) (λ r. double r (take k d)) k lost d 2 (two-checks k d s t c.sum-of.ensures c.weighted-of.ensures)
-    ∙ ap (completed double 2 k lost) c.fill-data.ensures
+    let d = c.fill_data.new.row in
+    let s = c.sum_of.result in
+    let t = c.weighted_of.result in
+    c.put_lost.ensures
+    ∙ remade-same (λ r. get_or (s ∷ t ∷ []) r 0) (λ r. double r (take k d)) k lost d 2 (two-checks k d s t c.sum_of.ensures c.weighted_of.ensures)
+    ∙ ap (completed double 2 k lost) c.fill_data.ensures

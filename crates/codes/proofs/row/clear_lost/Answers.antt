@@ -1,14 +1,14 @@
 use Rattle.std.proofs.Common.{set, sym, ap, ◌∙◌}
 use Rattle.codes.specs.Steps.{cleared-true, cleared-false}
 use Rattle.codes.proofs.row.clear_lost.Goals as goal
-use Rattle.codes.proofs.row.clear_lost.Goals.{then-is-lost, else-is-lost}
+use Rattle.codes.proofs.row.clear_lost.Goals.{then-is_lost, else-is_lost}
 
 pub loop-c-preserved : goal.loop-c-preserved
 loop-c-preserved c =
     let lost = c.args.lost.now in
     let n = c.loop-c.c in
     let row = c.args.row.now in
-    elim c.if-is-lost.branch [
-      | then-is-lost w ↦ w.row-is ∙ ap (λ r. set r n 0) c.loop-c.invariant ∙ sym (cleared-true lost n row w.if-is-lost.ensures)
-      | else-is-lost w ↦ w.row-is ∙ c.loop-c.invariant ∙ sym (cleared-false lost n row w.if-is-lost.ensures)
+    elim c.if-is_lost.branch [
+      | then-is_lost w ↦ w.row-is ∙ ap (λ r. set r n 0) c.loop-c.invariant ∙ sym (cleared-true lost n row w.if-is_lost.ensures)
+      | else-is_lost w ↦ w.row-is ∙ c.loop-c.invariant ∙ sym (cleared-false lost n row w.if-is_lost.ensures)
     ]

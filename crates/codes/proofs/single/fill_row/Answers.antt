@@ -10,6 +10,6 @@ unfolding solved_one
 returns c =
     let k = c.args.k in
     let lost = c.args.lost.now in
-    let d = c.fill-data.new.row in
-    let s = c.sum-of.result in
-    c.put-lost.ensures ∙ remade-same (λ r. get_or (s ∷ []) r 0) (λ r. single r (take k d)) k lost d 1 (one-check k d s c.sum-of.ensures) ∙ ap (completed single 1 k lost) c.fill-data.ensures
+    let d = c.fill_data.new.row in
+    let s = c.sum_of.result in
+    c.put_lost.ensures ∙ remade-same (λ r. get_or (s ∷ []) r 0) (λ r. single r (take k d)) k lost d 1 (one-check k d s c.sum_of.ensures) ∙ ap (completed single 1 k lost) c.fill_data.ensures

@@ -10,7 +10,7 @@ returns g c =
     let live = (g.B.Backplane.view c.args.plane.now).live in
     let good = good_of c.args.header.now in
     let s = c.args.stripe in
-    let flags = c.lost-columns.ensures in
+    let flags = c.lost_columns.ensures in
     record {
       flags = λ j h. ap (λ (z : List Bool). flagged z j) flags ∙ flag_is n live good s c.requires j h;
       live = λ j h e. live_of n live good s c.requires j h (ap (λ (z : List Bool). flagged z j) (sym flags) ∙ e);

@@ -18,5 +18,5 @@ returns g c =
     let some : 0 < c.args.n = omega arith in
     let slot : c.place-slot.result.0 ≡ slot_of c.args.n s at = (c.place-slot.ensures.slot some).0 in
     let block : c.place-slot.result.1 ≡ s = ap (λ (x : ℕ × ℕ). x.1) c.place-slot.ensures.value in
-    let P : List (Store (List ℕ)) → Type 0 = λ ss. Performed ss (v c.args.backplane.now) c.finish-block.result (v c.finish-block.new.backplane) in
-    subst P (λ i. cond c.args.good (to_block (slot i) (block i) (bytes i) ∷ []) []) c.finish-block.ensures
+    let P : List (Store (List ℕ)) → Type 0 = λ ss. Performed ss (v c.args.backplane.now) c.finish_block.result (v c.finish_block.new.backplane) in
+    subst P (λ i. cond c.args.good (to_block (slot i) (block i) (bytes i) ∷ []) []) c.finish_block.ensures

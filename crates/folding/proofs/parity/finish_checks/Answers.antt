@@ -10,8 +10,8 @@ use Rattle.array.proofs.Steps.{performed-append, performed-cut, stored-kept, kep
 use Rattle.folding.specs.Parity.{row_blocks}
 use Rattle.folding.proofs.parity.finish_checks.Goals as goal
 
-pub returns-in-err-finish-check : goal.returns-in-err-finish-check
-returns-in-err-finish-check g c =
+pub returns-in_err-finish_check : goal.returns-in_err-finish_check
+returns-in_err-finish_check g c =
     let v = g.B.Backplane.view in
     let row = c.args.row.now in
     let lost = c.args.lost.now in
@@ -22,15 +22,15 @@ returns-in-err-finish-check g c =
     let r = c.loop-r.r in
     let left = m - (r + 1) in
     let p = v c.loop-r.backplane in
-    let q = v c.finish-check.new.backplane in
-    let f = c.in-err-finish-check.field-0.0 in
+    let q = v c.finish_check.new.backplane in
+    let f = c.in_err-finish_check.field-0.0 in
     let b = err_from_is_err_and c.from-residual.result c.from-residual.ensures.1 in
     let e : m - r ≡ suc left = omega arith in
     let one : List (Store (List ℕ)) = cond (not (flagged lost (k + r))) (to_block (slot_of n s (k + r)) s (column_in row (k + r)) ∷ []) [] in
     subst⁻¹ (λ (x : Result (Unit {0}) ArrayFault). Performed (row_blocks n k s lost row m 0) (v c.args.backplane.now) x q) (b.1 ∙ ap Err b.2)
     (c.loop-r.invariant.1 q (Err f)
     (subst⁻¹ (λ (i : ℕ). Performed (row_blocks n k s lost row i r) p (Err f) q) e
-    (performed-cut one (row_blocks n k s lost row left (r + 1)) p q f c.in-err-finish-check.ensures)))
+    (performed-cut one (row_blocks n k s lost row left (r + 1)) p q f c.in_err-finish_check.ensures)))
 
 pub loop-r-preserved : goal.loop-r-preserved
 loop-r-preserved g c =
@@ -44,10 +44,10 @@ loop-r-preserved g c =
     let r = c.loop-r.r in
     let left = m - (r + 1) in
     let p = v c.loop-r.backplane in
-    let then = v c.finish-check.new.backplane in
+    let then = v c.finish_check.new.backplane in
     let e : m - r ≡ suc left = omega arith in
     let one : List (Store (List ℕ)) = cond (not (flagged lost (k + r))) (to_block (slot_of n s (k + r)) s (column_in row (k + r)) ∷ []) [] in
-    let done = c.in-ok-finish-check.ensures in (
+    let done = c.in_ok-finish_check.ensures in (
       kept-after (v c.args.backplane.now) p then c.loop-r.invariant.0 (stored-kept one p then done),
       λ q x h. c.loop-r.invariant.1 q x
           (subst⁻¹ (λ (i : ℕ). Performed (row_blocks n k s lost row i r) p x q) e (performed-append one (row_blocks n k s lost row left (r + 1)) p then q x done h)),

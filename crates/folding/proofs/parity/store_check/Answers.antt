@@ -10,5 +10,5 @@ returns g c =
     let at : ℕ = c.args.column in
     let w = 512 * at + 512 - 512 * at in
     let e : w ≡ 512 = omega arith in
-    subst (λ (x : List ℕ). Performed (to_cell c.args.at x ∷ []) (v c.args.backplane.now) c.store-cell.result (v c.store-cell.new.backplane)) (column-is c.args.row.now at w e)
-    c.store-cell.ensures
+    subst (λ (x : List ℕ). Performed (to_cell c.args.at x ∷ []) (v c.args.backplane.now) c.store_cell.result (v c.store_cell.new.backplane)) (column-is c.args.row.now at w e)
+    c.store_cell.ensures

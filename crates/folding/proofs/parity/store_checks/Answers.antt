@@ -10,8 +10,8 @@ use Rattle.array.proofs.Steps.{performed-append, performed-cut, stored-kept, kep
 use Rattle.folding.specs.Parity.{row_cells}
 use Rattle.folding.proofs.parity.store_checks.Goals as goal
 
-pub returns-in-err-store-check : goal.returns-in-err-store-check
-returns-in-err-store-check g c =
+pub returns-in_err-store_check : goal.returns-in_err-store_check
+returns-in_err-store_check g c =
     let v = g.B.Backplane.view in
     let row = c.args.row.now in
     let k = c.args.k in
@@ -20,15 +20,15 @@ returns-in-err-store-check g c =
     let r = c.loop-r.r in
     let left = m - (r + 1) in
     let p = v c.loop-r.backplane in
-    let q = v c.store-check.new.backplane in
-    let f = c.in-err-store-check.field-0.0 in
+    let q = v c.store_check.new.backplane in
+    let f = c.in_err-store_check.field-0.0 in
     let b = err_from_is_err_and c.from-residual.result c.from-residual.ensures.1 in
     let e : m - r ≡ suc left = omega arith in
     record {
       stores = subst⁻¹ (λ (x : Result (Unit {0}) ArrayFault). Performed (row_cells k row at m 0) (v c.args.backplane.now) x q) (b.1 ∙ ap Err b.2)
           (c.loop-r.invariant.1 q (Err f)
           (subst⁻¹ (λ (i : ℕ). Performed (row_cells k row at i r) p (Err f) q) e
-          (performed-cut (to_cell (at + r) (column_in row (k + r)) ∷ []) (row_cells k row at left (r + 1)) p q f c.in-err-store-check.ensures)));
+          (performed-cut (to_cell (at + r) (column_in row (k + r)) ∷ []) (row_cells k row at left (r + 1)) p q f c.in_err-store_check.ensures)));
       kept = subst⁻¹ (λ (x : Result (Unit {0}) ArrayFault). IfOk x (λ _. Kept (v c.args.backplane.now) q)) b.1 tt;
     }
 
@@ -42,9 +42,9 @@ loop-r-preserved g c =
     let r = c.loop-r.r in
     let left = m - (r + 1) in
     let p = v c.loop-r.backplane in
-    let then = v c.store-check.new.backplane in
+    let then = v c.store_check.new.backplane in
     let e : m - r ≡ suc left = omega arith in
-    let one = c.in-ok-store-check.ensures in (
+    let one = c.in_ok-store_check.ensures in (
       kept-after (v c.args.backplane.now) p then c.loop-r.invariant.0 (stored-kept (to_cell (at + r) (column_in row (k + r)) ∷ []) p then one),
       λ q x h. c.loop-r.invariant.1 q x
           (subst⁻¹ (λ (i : ℕ). Performed (row_cells k row at i r) p x q) e

@@ -7,14 +7,14 @@ pub returns-in-OfWrite : goal.returns-in-OfWrite
 returns-in-OfWrite c =
     let h = c.args.head.now in
     record {
-      bytes = c.fill-head.ensures ∙ sym (ap head_bytes c.in-OfWrite.is);
-      back = λ k stripes f. wrote-back k stripes h c.fill-head.new.into c.in-OfWrite.stripe c.in-OfWrite.column c.in-OfWrite.is c.fill-head.ensures (omega arith) f;
+      bytes = c.fill_head.ensures ∙ sym (ap head_bytes c.in-OfWrite.is);
+      back = λ k stripes f. wrote-back k stripes h c.fill_head.new.into c.in-OfWrite.stripe c.in-OfWrite.column c.in-OfWrite.is c.fill_head.ensures (omega arith) f;
     }
 
 pub returns-in-OfParity : goal.returns-in-OfParity
 returns-in-OfParity c =
     let h = c.args.head.now in
     record {
-      bytes = c.fill-head-in-OfParity.ensures ∙ sym (ap head_bytes c.in-OfParity.is);
-      back = λ k stripes f. folded_back k stripes h c.fill-head-in-OfParity.new.into c.in-OfParity.stripe c.in-OfParity.is c.fill-head-in-OfParity.ensures (omega arith) f;
+      bytes = c.fill_head-in-OfParity.ensures ∙ sym (ap head_bytes c.in-OfParity.is);
+      back = λ k stripes f. folded_back k stripes h c.fill_head-in-OfParity.new.into c.in-OfParity.stripe c.in-OfParity.is c.fill_head-in-OfParity.ensures (omega arith) f;
     }

@@ -6,4 +6,4 @@ pub returns : goal.returns
 unfolding head_cell
 returns c =
     let z : c.wipe.new.bytes ≡ replicate 512 0 = c.wipe.ensures ∙ ap (λ (n : ℕ). replicate n 0) c.requires in
-    rw (c.put-number.ensures, z)
+    rw (c.put_number.ensures, z)

@@ -7,9 +7,9 @@ use Rattle.layout.proofs.head.is_head.Goals as goal
 pub returns : goal.returns
 returns c =
     let x = c.args.cell.now in
-    let y = c.fill-head.new.into in
+    let y = c.fill_head.new.into in
     let d : Decides c.eq.result (x ≡ y) = slice_eq-Decides Decides-eqb x y c.eq.result c.eq.ensures in
     record {
-      value = same_from_decides _ _ d (bytes_eq-Decides x y) ∙ ap (bytes_eq x) c.fill-head.ensures;
-      same = λ e. sym (d.0 e ∙ c.fill-head.ensures);
+      value = same_from_decides _ _ d (bytes_eq-Decides x y) ∙ ap (bytes_eq x) c.fill_head.ensures;
+      same = λ e. sym (d.0 e ∙ c.fill_head.ensures);
     }

@@ -15,7 +15,7 @@ loop-d-preserved c =
     let f = front_bytes sh h.used in
     let i = c.loop-d.d in
     let n : length h.good ≡ 16 = search rules in
-    c.put-number.ensures ∙ ap (λ (x : List ℕ). paste x (20 + 4 * i) (le4 (get_or h.good i 0)) 4) c.loop-d.invariant
+    c.put_number.ensures ∙ ap (λ (x : List ℕ). paste x (20 + 4 * i) (le4 (get_or h.good i 0)) 4) c.loop-d.invariant
     ∙ goods-more f h.good i (length-front_bytes sh h.used) n (omega arith)
 
 pub returns : goal.returns

@@ -7,7 +7,7 @@ pub loop-d-preserved : goal.loop-d-preserved
 loop-d-preserved c =
     let good = c.args.good.now in
     let d = c.loop-d.d in
-    ap₂ (λ (m : ℕ) (b : Bool). leb (get_or good d 0) m && b) c.most-good-most.ensures c.loop-d.invariant
+    ap₂ (λ (m : ℕ) (b : Bool). leb (get_or good d 0) m && b) c.most_good-most.ensures c.loop-d.invariant
     ∙ sym (goods_fit-more c.args.slots c.args.blocks d good)
 
 pub returns : goal.returns

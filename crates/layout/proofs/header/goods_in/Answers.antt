@@ -6,7 +6,7 @@ use Rattle.layout.proofs.header.goods_in.Goals as goal
 
 pub loop-d-preserved : goal.loop-d-preserved
 loop-d-preserved c =
-    (search rules, rw c.number-at.ensures (fill_by_more (good_in c.args.cell.now) c.loop-d.good c.loop-d.d 0 (omega arith) c.loop-d.invariant.1))
+    (search rules, rw c.number_at.ensures (fill_by_more (good_in c.args.cell.now) c.loop-d.good c.loop-d.d 0 (omega arith) c.loop-d.invariant.1))
 
 pub returns : goal.returns
 unfolding goods_in

@@ -5,4 +5,4 @@ use Rattle.memory.proofs.MemoryBackplane.store_cell.Goals as goal
 
 pub returns : goal.returns
 returns c =
-    record { meaning = store-meant (to_cell c.args.cell c.args.bytes.now) (held_by c.args.self.now) (held_by c.put-cell.new.self) c.put-cell.result c.put-cell.ensures; exact = c.put-cell.ensures }
+    record { meaning = store-meant (to_cell c.args.cell c.args.bytes.now) (held_by c.args.self.now) (held_by c.put_cell.new.self) c.put_cell.result c.put_cell.ensures; exact = c.put_cell.ensures }

@@ -13,10 +13,10 @@ returns-in-Some g c =
     let K = byte_coding c.args.k g.C.Code.number g.C.Code.rows g.C.Code.check g.C.Code.solved in
     let l = (walk K v c.args.used).log in
     let s = c.in-Some.stripe in
-    let before = c.mark-records.new.map in
+    let before = c.mark_records.new.map in
     let after = c.mark.new.map in
-    let long : length before ≡ length c.args.map.now = omega (arith, c.mark-records.auto.map, c.wipe.auto.bytes) in
-    let was : (t : ℕ) → t < v.blocks → marked before t ≡ owing K l t = λ t h. c.mark-records.ensures.marks t (omega (arith, c.wipe.auto.bytes)) in
+    let long : length before ≡ length c.args.map.now = omega (arith, c.mark_records.auto.map, c.wipe.auto.bytes) in
+    let was : (t : ℕ) → t < v.blocks → marked before t ≡ owing K l t = λ t h. c.mark_records.ensures.marks t (omega (arith, c.wipe.auto.bytes)) in
     let is : (t : ℕ) → t < v.blocks → marked after t ≡ cond (eqb t s) true (marked before t) = λ t h. elim (cases_lt s (8 * length before)) [
       | inl lt ↦ c.mark.ensures.within lt t
       | inr le ↦ ap (λ (xs : List ℕ). marked xs t) (c.mark.ensures.past le) ∙ sym (cond-false (eqb t s) true (marked before t) (ne_eqb t s (λ e. omega arith)))
@@ -25,17 +25,17 @@ returns-in-Some g c =
     (λ t h. is t h ∙ ap (λ (b : Bool). cond (eqb t s) true b) (was t h) ∙ sym (owing-write K s 0 [] [] l t)) in
     record {
       marks = subst (λ (o : Option ℕ). MarksOwing K v.blocks (with_write o l) after) (sym c.in-Some.is) m;
-      kept = c.mark-records.ensures.kept;
+      kept = c.mark_records.ensures.kept;
     }
 
-pub returns-in-default : goal.returns-in-default
-returns-in-default g c =
+pub returns-in_default : goal.returns-in_default
+returns-in_default g c =
     let v = g.B.Backplane.view c.args.plane.now in
     let K = byte_coding c.args.k g.C.Code.number g.C.Code.rows g.C.Code.check g.C.Code.solved in
     let l = (walk K v c.args.used).log in
-    let map = c.mark-records.new.map in
-    let m : MarksOwing K v.blocks l map = marks-owing K v.blocks l map (λ t h. c.mark-records.ensures.marks t (omega (arith, c.wipe.auto.bytes))) in
+    let map = c.mark_records.new.map in
+    let m : MarksOwing K v.blocks l map = marks-owing K v.blocks l map (λ t h. c.mark_records.ensures.marks t (omega (arith, c.wipe.auto.bytes))) in
     record {
-      marks = subst (λ (o : Option ℕ). MarksOwing K v.blocks (with_write o l) map) (sym c.in-default.is) m;
-      kept = c.mark-records.ensures.kept;
+      marks = subst (λ (o : Option ℕ). MarksOwing K v.blocks (with_write o l) map) (sym c.in_default.is) m;
+      kept = c.mark_records.ensures.kept;
     }

@@ -26,21 +26,21 @@ loop-at-preserved g c =
     let e : head_at K v u i ≡ Some h = ap (λ p. head_at K p u i) (sym inv.0) ∙ sym c.in-Some.ensures.value in
     let w = head-within K v u i h e in
     let some = cells-some g.C.Code.rows h in
-    let n : record_cells g.C.Code.rows h ≡ c.cells-of-at.result = sym c.cells-of-at.ensures.value in
+    let n : record_cells g.C.Code.rows h ≡ c.cells_of-at.result = sym c.cells_of-at.ensures.value in
     let le : i ≤ u = omega arith in
     let s = c.args.stripe in
     let ls = inv.5.0 in
     let last = c.loop-at.last in
-    let later = sym c.later-parity-last.ensures in (
-      c.head-at.ensures.kept ∙ inv.0,
-      fault-kept u c.head-at.new.buf c.loop-at.buf q (g.B.Backplane.view c.head-at.new.plane) c.head-at.ensures.long c.head-at.ensures.kept inv.1,
+    let later = sym c.later_parity-last.ensures in (
+      c.head_at.ensures.kept ∙ inv.0,
+      fault-kept u c.head_at.new.buf c.loop-at.buf q (g.B.Backplane.view c.head_at.new.plane) c.head_at.ensures.long c.head_at.ensures.kept inv.1,
       omega arith,
       omega arith,
-      c.head-at.ensures.long ∙ inv.4,
+      c.head_at.ensures.long ∙ inv.4,
       (
         record_from K v i h ∷ ls,
         subst (λ (m : ℕ). Stands K v u (i + m) (record_from K v i h ∷ ls)) n (stands-next K v u i ls h le e inv.5.1),
-        subst (λ (o : Option ℕ). Comes K v u (parity_at s) (i + c.cells-of-at.result) o (last_parity K v u s)) later
+        subst (λ (o : Option ℕ). Comes K v u (parity_at s) (i + c.cells_of-at.result) o (last_parity K v u s)) later
             (subst (λ (m : ℕ). Comes K v u (parity_at s) (i + m) (parity_at s i h last) (last_parity K v u s)) n (comes-next K v u (parity_at s) i last (last_parity K v u s) h le e inv.5.2)),
         subst (λ (o : Option ℕ). Resumes K v u s (record_from K v i h ∷ ls) (resume_at K o)) later (resumes-next K v u s ls i h last le inv.2 e inv.5.1 inv.5.3),
       ),
@@ -63,8 +63,8 @@ returns-then-at-used g c =
       long = inv.4;
     }
 
-pub returns-in-default : goal.returns-in-default
-returns-in-default g c =
+pub returns-in_default : goal.returns-in_default
+returns-in_default g c =
     let v = g.B.Backplane.view c.args.plane.now in
     let K = byte_coding c.args.k g.C.Code.number g.C.Code.rows g.C.Code.check g.C.Code.solved in
     let u = c.args.used in
@@ -72,11 +72,11 @@ returns-in-default g c =
     let i = c.loop-at.at in
     let last = c.loop-at.last in
     let inv = c.loop-at.invariant in
-    let e : head_at K v u i ≡ None = ap (λ p. head_at K p u i) (sym inv.0) ∙ sym c.in-default.ensures.value in
+    let e : head_at K v u i ≡ None = ap (λ p. head_at K p u i) (sym inv.0) ∙ sym c.in_default.ensures.value in
     let le : i ≤ u = omega arith in
     record {
       value = comes-damaged K v u (parity_at s) i last (last_parity K v u s) le e inv.5.2;
       resumes = subst (λ (l : List (Rec (List ℕ))). Resumes K v u s l (resume_at K last)) (log-damaged K v u i inv.5.0 le e inv.5.1) inv.5.3;
-      kept = c.head-at.ensures.kept ∙ inv.0;
-      long = c.head-at.ensures.long ∙ inv.4;
+      kept = c.head_at.ensures.kept ∙ inv.0;
+      long = c.head_at.ensures.long ∙ inv.4;
     }

@@ -13,8 +13,8 @@ loop-at-init g c =
     let u = c.args.used in
     (refl, c.requires, omega arith, omega arith, ([], stands-first K v u, comes-first K v u (λ i h last. i) 0, refl))
 
-pub head-at-requires : goal.head-at-requires
-head-at-requires g c = (c.loop-at.invariant.1, omega arith)
+pub head_at-requires : goal.head_at-requires
+head_at-requires g c = (c.loop-at.invariant.1, omega arith)
 
 pub loop-at-preserved : goal.loop-at-preserved
 loop-at-preserved g c =
@@ -29,10 +29,10 @@ loop-at-preserved g c =
     let e : head_at K v u i ≡ Some h = ap (λ p. head_at K p u i) (sym inv.0) ∙ sym c.in-Some.ensures.value in
     let w = head-within K v u i h e in
     let some = cells-some g.C.Code.rows h in
-    let n : record_cells g.C.Code.rows h ≡ c.cells-of-at.result = sym c.cells-of-at.ensures.value in
+    let n : record_cells g.C.Code.rows h ≡ c.cells_of-at.result = sym c.cells_of-at.ensures.value in
     let le : i ≤ u = omega arith in (
-      c.head-at.ensures.kept ∙ inv.0,
-      fault-kept u c.head-at.new.buf c.loop-at.buf q (g.B.Backplane.view c.head-at.new.plane) c.head-at.ensures.long c.head-at.ensures.kept inv.1,
+      c.head_at.ensures.kept ∙ inv.0,
+      fault-kept u c.head_at.new.buf c.loop-at.buf q (g.B.Backplane.view c.head_at.new.plane) c.head_at.ensures.long c.head_at.ensures.kept inv.1,
       omega arith,
       omega arith,
       (
@@ -57,16 +57,16 @@ returns-then-at-used g c =
       kept = inv.0;
     }
 
-pub returns-in-default : goal.returns-in-default
-returns-in-default g c =
+pub returns-in_default : goal.returns-in_default
+returns-in_default g c =
     let v = g.B.Backplane.view c.args.plane.now in
     let K = byte_coding c.args.k g.C.Code.number g.C.Code.rows g.C.Code.check g.C.Code.solved in
     let u = c.args.used in
     let i = c.loop-at.at in
     let inv = c.loop-at.invariant in
-    let e : head_at K v u i ≡ None = ap (λ p. head_at K p u i) (sym inv.0) ∙ sym c.in-default.ensures.value in
+    let e : head_at K v u i ≡ None = ap (λ p. head_at K p u i) (sym inv.0) ∙ sym c.in_default.ensures.value in
     record {
       value = end-damaged K v u i inv.4.0 (omega arith) e inv.4.1;
       last = tt;
-      kept = c.head-at.ensures.kept ∙ inv.0;
+      kept = c.head_at.ensures.kept ∙ inv.0;
     }

@@ -12,13 +12,13 @@ use Rattle.reading.proofs.read.read_in.Goals as goal
 pub returns : goal.returns
 returns g c =
     let a = c.args.array.now in
-    let z = c.read-open.new.array in
+    let z = c.read_open.new.array in
     let h = c.in-Some.header in
     let p = view_of g.B.Backplane g.C.Code a in
     let q = view_of g.B.Backplane g.C.Code z in
     let K = coding_of g.B.Backplane g.C.Code a in
-    let r = c.read-open.result in
-    let bytes = c.read-open.new.into in
+    let r = c.read_open.result in
+    let bytes = c.read_open.new.into in
     let k : ℕ = p.slots - g.C.Code.rows in
     let s : ℕ = stripe_of k c.args.block in
     let j : ℕ = column_of k c.args.block in
@@ -26,8 +26,8 @@ returns g c =
     let least = c.in-Some.ensures.ready.sized.least in
     let all : p.slots ≡ k + g.C.Code.rows = omega arith in
     let full : length c.args.into.now ≡ 512 = omega arith in
-    let there : not (ltb c.args.block (p.blocks * k)) ≡ false = ap not (sym c.has-block.ensures ∙ c.if-not-has-block.false) in
-    let d = c.read-open.ensures in
+    let there : not (ltb c.args.block (p.blocks * k)) ≡ false = ap not (sym c.has_block.ensures ∙ c.if-not-has_block.false) in
+    let d = c.read_open.ensures in
     record {
       does = inr (
         ap not (eq-eqb (length c.args.into.now) 512 full),

@@ -3,13 +3,13 @@ use Rattle.array.specs.Calls.{view_of}
 use Rattle.reading.proofs.Opening.{stripe-below}
 use Rattle.reading.proofs.read.read_open.Goals as goal
 
-pub read-column-requires : goal.read-column-requires
-read-column-requires g c =
+pub read_column-requires : goal.read_column-requires
+read_column-requires g c =
     let p = view_of g.B.Backplane g.C.Code c.args.array.now in
     let n : ℕ = c.slots-n.result in
-    let k : ℕ = n - c.check-rows-rows.result in
+    let k : ℕ = n - c.check_rows-rows.result in
     let slots : n ≡ p.slots = c.slots-n.ensures.value in
-    let rows : c.check-rows-rows.result ≡ g.C.Code.rows = c.check-rows-rows.ensures in
+    let rows : c.check_rows-rows.result ≡ g.C.Code.rows = c.check_rows-rows.ensures in
     let sized = c.requires.ready.sized in
     let least = sized.least in
     let few = sized.few in

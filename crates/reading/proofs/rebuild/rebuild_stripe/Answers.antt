@@ -15,11 +15,11 @@ returns g c =
     let K = coding_of g.B.Backplane g.C.Code a in
     let d = c.args.slot in
     let s = c.args.stripe in
-    let q = view_of g.B.Backplane g.C.Code c.store-stripe.new.array in
-    let u = c.store-stripe.new.array.header in
-    let r = c.store-stripe.result in
-    let b = c.find-block.new.block in
-    let h = c.with-good.result in
-    let here = subst (λ (x : Bytes). Made ((to_block d s b ∷ (to_cell 0 (header_bytes (shape_of (coding_on g.B.Backplane g.C.Code x) x) h) ∷ [])) ∷ []) Same (s + 1) (Some h) x r q u) c.find-block.ensures.kept c.store-stripe.ensures in
-    let found = subst (λ (x : List ℕ). Made ((to_block d s x ∷ (to_header K p h ∷ [])) ∷ []) Same (s + 1) (Some h) p r q u) c.find-block.ensures.found here in
-    subst (λ (x : Header). Made ((to_block d s (rebuilt K p c.args.header.now d s) ∷ (to_header K p x ∷ [])) ∷ []) Same (s + 1) (Some x) p r q u) c.with-good.ensures found
+    let q = view_of g.B.Backplane g.C.Code c.store_stripe.new.array in
+    let u = c.store_stripe.new.array.header in
+    let r = c.store_stripe.result in
+    let b = c.find_block.new.block in
+    let h = c.with_good.result in
+    let here = subst (λ (x : Bytes). Made ((to_block d s b ∷ (to_cell 0 (header_bytes (shape_of (coding_on g.B.Backplane g.C.Code x) x) h) ∷ [])) ∷ []) Same (s + 1) (Some h) x r q u) c.find_block.ensures.kept c.store_stripe.ensures in
+    let found = subst (λ (x : List ℕ). Made ((to_block d s x ∷ (to_header K p h ∷ [])) ∷ []) Same (s + 1) (Some h) p r q u) c.find_block.ensures.found here in
+    subst (λ (x : Header). Made ((to_block d s (rebuilt K p c.args.header.now d s) ∷ (to_header K p x ∷ [])) ∷ []) Same (s + 1) (Some x) p r q u) c.with_good.ensures found

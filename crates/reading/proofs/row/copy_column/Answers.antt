@@ -7,4 +7,4 @@ returns c =
     let at : ℕ = c.args.column in
     let w = 512 * at + 512 - 512 * at in
     let e : w ≡ 512 = omega arith in
-    c.copy-from-slice.ensures.after ∙ column-is c.args.row.now at w e
+    c.copy_from_slice.ensures.after ∙ column-is c.args.row.now at w e

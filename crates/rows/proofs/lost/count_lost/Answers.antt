@@ -4,7 +4,7 @@ use Rattle.layout.specs.Counts.{count}
 use Rattle.model.specs.Row.{lost_at}
 use Rattle.model.specs.Rules.{good_of}
 use Rattle.rows.proofs.lost.count_lost.Goals as goal
-use Rattle.rows.proofs.lost.count_lost.Goals.{then-is-lost, else-is-lost}
+use Rattle.rows.proofs.lost.count_lost.Goals.{then-is_lost, else-is_lost}
 
 -- one more is counted by its test
 counted : (f : ℕ → Bool) (n c : ℕ) (t : Bool) (lost next : ℕ) → c < n → t ≡ ltb c n && f c → (lost ≡ count c f) × (lost ≤ c) → next ≡ lost + cond t 1 0 → (next ≡ count (c + 1) f) × (next ≤ c + 1)
@@ -25,7 +25,7 @@ counted f n c t lost next low e h m =
 pub loop-c-preserved : goal.loop-c-preserved
 loop-c-preserved g c =
     let f : ℕ → Bool = lost_at c.args.n (g.B.Backplane.view c.args.plane.now).live (good_of c.args.header.now) c.args.stripe in
-    elim c.if-is-lost.branch [
-      | then-is-lost w ↦ counted f c.args.n c.loop-c.c true c.loop-c.lost _ (omega arith) w.if-is-lost.ensures c.loop-c.invariant w.lost-is
-      | else-is-lost w ↦ counted f c.args.n c.loop-c.c false c.loop-c.lost _ (omega arith) w.if-is-lost.ensures c.loop-c.invariant (omega (arith, w.lost-is))
+    elim c.if-is_lost.branch [
+      | then-is_lost w ↦ counted f c.args.n c.loop-c.c true c.loop-c.lost _ (omega arith) w.if-is_lost.ensures c.loop-c.invariant w.lost-is
+      | else-is_lost w ↦ counted f c.args.n c.loop-c.c false c.loop-c.lost _ (omega arith) w.if-is_lost.ensures c.loop-c.invariant (omega (arith, w.lost-is))
     ]

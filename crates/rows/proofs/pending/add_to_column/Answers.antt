@@ -14,8 +14,8 @@ returns-then-not-leave g c =
     let col : take w (drop (512 * at) row) ≡ column_in row at = column-is row at w e in
     let n : length (take w (drop (512 * at) row)) ≡ 512 = ap length col ∙ full-column row at c.requires.room in
     let sh : List ℕ = share (byte_coding c.args.k g.C.Code.number g.C.Code.rows g.C.Code.check g.C.Code.solved) c.args.r c.args.column c.args.delta.now in
-    let whole : c.add-share.new.target ≡ sum_of (take w (drop (512 * at) row)) sh = c.add-share.ensures.whole c.args.k c.requires.column c.requires.few c.requires.check c.requires.delta n in
-    let long : length c.add-share.new.target ≡ 512 = c.add-share.auto.target ∙ n in
-    put_as at c.add-share.new.target _ row _
+    let whole : c.add_share.new.target ≡ sum_of (take w (drop (512 * at) row)) sh = c.add_share.ensures.whole c.args.k c.requires.column c.requires.few c.requires.check c.requires.delta n in
+    let long : length c.add_share.new.target ≡ 512 = c.add_share.auto.target ∙ n in
+    put_as at c.add_share.new.target _ row _
     (whole ∙ ap (λ (z : List ℕ). sum_of z sh) col ∙ ap (λ (b : Bool). cond b (column_in row at) (sum_of (column_in row at) sh)) (sym c.if-not-leave.true))
-    (put-column row c.add-share.new.target at w e c.requires.room long)
+    (put-column row c.add_share.new.target at w e c.requires.room long)

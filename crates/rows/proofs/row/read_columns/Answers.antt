@@ -1,4 +1,4 @@
 use Rattle.rows.proofs.row.read_columns.Goals as goal
 
-pub returns-in-err-read-column : goal.returns-in-err-read-column
-returns-in-err-read-column g c = absurd c.in-err-read-column.ensures.column
+pub returns-in_err-read_column : goal.returns-in_err-read_column
+returns-in_err-read_column g c = absurd c.in_err-read_column.ensures.column

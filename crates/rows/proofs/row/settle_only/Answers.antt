@@ -13,13 +13,13 @@ returns g c =
     let K = byte_coding c.args.k g.C.Code.number g.C.Code.rows g.C.Code.check g.C.Code.solved in
     let p : Bytes = g.B.Backplane.view c.args.plane.now in
     let row : List ℕ = c.args.row.now in
-    let r = c.in-ok-settle.ensures in
+    let r = c.in_ok-settle.ensures in
     let with-debt : ℕ → List ℕ = λ j. settled_with K (walk K p c.args.header.now.used).log s j (column_in row j) in
     record {
       each = λ j l.
           let low : j < 16 = omega (arith, c.requires.few, g.met.C.Code.few.1, l) in
           r.each j l
-          ∙ ap (λ (t : Bool). cond t (column_in row j) (with-debt j)) (ap (λ (z : List Bool). flagged z j) c.all-but-leave.ensures ∙ but-one 16 c.args.column j low)
+          ∙ ap (λ (t : Bool). cond t (column_in row j) (with-debt j)) (ap (λ (z : List Bool). flagged z j) c.all_but-leave.ensures ∙ but-one 16 c.args.column j low)
           ∙ cond-not (eqb j c.args.column) (column_in row j) (with-debt j);
       kept = r.kept;
     }

@@ -16,10 +16,10 @@ pub loop-i-preserved : goal.loop-i-preserved
 loop-i-preserved g c =
     let i = c.loop-i.i in
     let n = length c.args.lost.now in
-    let s = c.solve-place.ensures in
+    let s = c.solve_place.ensures in
     let v = c.loop-i.invariant in
     let a = c.args.row.now in
-    let after = c.solve-place.new.row in
+    let after = c.solve_place.new.row in
     let low : i < 512 = omega arith in
     let same = across-same c.loop-i.row a n i low (λ q. v.2 i q (omega arith) low) in (
       s.long ∙ v.0,

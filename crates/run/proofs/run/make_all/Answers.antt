@@ -26,13 +26,13 @@ pub loop-call-preserved : goal.loop-call-preserved
 loop-call-preserved g c =
     let B = g.B.Backplane in
     let C = g.C.Code in
-    let e = c.in-ok-make-next.ensures in
-    let x = c.in-ok-make-next.field-0 in
+    let e = c.in_ok-make_next.ensures in
+    let x = c.in_ok-make_next.field-0 in
     let inv = c.loop-call.invariant in
     let call = get_or c.args.calls.now c.loop-call.call-index none in
     let a = c.loop-call.array in
-    let z = c.make-next.new.array in (
-      area-stays call c.args.work.now c.loop-call.work c.make-next.new.work c.requires inv.0 e.area,
+    let z = c.make_next.new.array in (
+      area-stays call c.args.work.now c.loop-call.work c.make_next.new.work c.requires inv.0 e.area,
       ends-slots (verdict (coding_of B C a) (view_of B C a) a.header (call_of (length c.loop-call.work) call)) (view_of B C a) (view_of B C z) a.header z.header (reply_for x) e.does ∙ inv.1,
       rw e.added
           (further B C c.args.array.now a z (length c.loop-call.work) (length c.args.work.now) c.args.calls.now c.loop-call.call-index none
@@ -42,10 +42,10 @@ loop-call-preserved g c =
 pub returns : goal.returns
 returns g c = record { does = rw (take_all _ _ c.loop-call-test.false) at c.loop-call.invariant.2; area = c.loop-call.invariant.0 }
 
-pub returns-in-err-make-next : goal.returns-in-err-make-next
-returns-in-err-make-next g c =
-    let e = c.in-err-make-next.ensures in
-    let x = c.in-err-make-next.field-0.0.value in
+pub returns-in_err-make_next : goal.returns-in_err-make_next
+returns-in_err-make_next g c =
+    let e = c.in_err-make_next.ensures in
+    let x = c.in_err-make_next.field-0.0.value in
     let inv = c.loop-call.invariant in
     let i = c.loop-call.call-index in
     let call = get_or c.args.calls.now i none in
@@ -55,8 +55,8 @@ returns-in-err-make-next g c =
         many = i + 1;
         within = omega arith;
         answers = vec_items c.loop-call.answers ++ x ∷ [];
-        made = further g.B.Backplane g.C.Code c.args.array.now c.loop-call.array c.make-next.new.array (length c.loop-call.work) (length c.args.work.now) c.args.calls.now i none
+        made = further g.B.Backplane g.C.Code c.args.array.now c.loop-call.array c.make_next.new.array (length c.loop-call.work) (length c.args.work.now) c.args.calls.now i none
             (vec_items c.loop-call.answers) x c.loop-call-test.true (ap length inv.0) inv.1 inv.2 e.given e.does;
       });
-      area = area-stays call c.args.work.now c.loop-call.work c.make-next.new.work c.requires inv.0 e.area;
+      area = area-stays call c.args.work.now c.loop-call.work c.make_next.new.work c.requires inv.0 e.area;
     }

@@ -15,23 +15,23 @@ laws g =
 pub returns : goal.returns
 returns g c =
     let w = c.args.work.now in
-    let wiped = c.in-ok-format.ensures.area in
+    let wiped = c.in_ok-format.ensures.area in
     record {
-      does = kept-all g.B.Backplane g.C.Code (laws g) c.args.array.now c.format.new.self c.make-all.new.array (length c.format.new.work) (length w)
-          (ap length wiped ∙ wiped-length w) c.keeps-sound.ensures c.in-ok-format.ensures.does
-          c.args.calls.now (vec_items c.in-ok-make-all.field-0) c.in-ok-make-all.ensures.does;
-      area = c.in-ok-make-all.ensures.area ∙ wiped;
+      does = kept-all g.B.Backplane g.C.Code (laws g) c.args.array.now c.format.new.self c.make_all.new.array (length c.format.new.work) (length w)
+          (ap length wiped ∙ wiped-length w) c.keeps_sound.ensures c.in_ok-format.ensures.does
+          c.args.calls.now (vec_items c.in_ok-make_all.field-0) c.in_ok-make_all.ensures.does;
+      area = c.in_ok-make_all.ensures.area ∙ wiped;
     }
 
-pub returns-in-err-make-all : goal.returns-in-err-make-all
-returns-in-err-make-all g c =
+pub returns-in_err-make_all : goal.returns-in_err-make_all
+returns-in_err-make_all g c =
     let w = c.args.work.now in
-    let wiped = c.in-ok-format.ensures.area in
-    let p = err_from_is_err_and c.from-residual-in-err-make-all.result c.from-residual-in-err-make-all.ensures.1 in
+    let wiped = c.in_ok-format.ensures.area in
+    let p = err_from_is_err_and c.from-residual-in_err-make_all.result c.from-residual-in_err-make_all.ensures.1 in
     record {
       does = rw (p.1, p.2)
-          (kept-some g.B.Backplane g.C.Code (laws g) c.args.array.now c.format.new.self c.make-all.new.array (length c.format.new.work) (length w)
-          (ap length wiped ∙ wiped-length w) c.keeps-sound.ensures c.in-ok-format.ensures.does
-          c.args.calls.now c.in-err-make-all.ensures.does);
-      area = c.in-err-make-all.ensures.area ∙ wiped;
+          (kept-some g.B.Backplane g.C.Code (laws g) c.args.array.now c.format.new.self c.make_all.new.array (length c.format.new.work) (length w)
+          (ap length wiped ∙ wiped-length w) c.keeps_sound.ensures c.in_ok-format.ensures.does
+          c.args.calls.now c.in_err-make_all.ensures.does);
+      area = c.in_err-make_all.ensures.area ∙ wiped;
     }

@@ -14,19 +14,19 @@ use Rattle.starting.specs.Finish.{to_good, to_good_checks}
 use Rattle.starting.proofs.Finishing.{good-same, good-cells}
 use Rattle.starting.proofs.finish.finish_parity.Goals as goal
 
-pub finish-column-requires : goal.finish-column-requires
-finish-column-requires g c =
+pub finish_column-requires : goal.finish_column-requires
+finish_column-requires g c =
     let kept = c.loop-row.invariant.0 in
     let blocks = kept.blocks in
     let cells = kept.cells in
-    (kept.on ∙ c.requires.0, kept.slots ∙ c.requires.1, omega arith, omega arith, omega arith, omega arith)
+    (kept.on ∙ c.requires.plane_value, kept.slots ∙ c.requires.plane_value_2, omega arith, omega arith, omega arith, omega arith)
 
-pub returns-in-err-finish-column : goal.returns-in-err-finish-column
-returns-in-err-finish-column g c =
+pub returns-in_err-finish_column : goal.returns-in_err-finish_column
+returns-in_err-finish_column g c =
     let v = g.B.Backplane.view in
     let p = v c.args.plane.now in
     let now = v c.loop-row.plane in
-    let q = v c.finish-column.new.plane in
+    let q = v c.finish_column.new.plane in
     let n = c.args.n in
     let k = c.args.k in
     let h = c.args.header.now in
@@ -35,11 +35,11 @@ returns-in-err-finish-column g c =
     let m = g.C.Code.rows in
     let row = c.loop-row.row in
     let inv = c.loop-row.invariant in
-    let f = c.in-err-finish-column.field-0.0 in
+    let f = c.in_err-finish_column.field-0.0 in
     let b = err_from_is_err_and c.from-residual.result c.from-residual.ensures.1 in
     let e : m - row ≡ suc (m - (row + 1)) = omega arith in
     let same = good-same n p now h s (k + row) (at + (1 + row)) inv.0.live inv.1 in
-    let cut = subst (λ (ss : List (Store (List ℕ))). Performed ss now (Err f) q) same c.in-err-finish-column.ensures in
+    let cut = subst (λ (ss : List (Store (List ℕ))). Performed ss now (Err f) q) same c.in_err-finish_column.ensures in
     subst⁻¹ (λ (r : Result (Unit {0}) ArrayFault). Performed (to_good_checks n k p h s at m 0) p r q) (b.1 ∙ ap Err b.2)
     (inv.2 q (Err f)
     (subst⁻¹ (λ (i : ℕ). Performed (to_good_checks n k p h s at i row) now (Err f) q) e
@@ -50,7 +50,7 @@ loop-row-preserved g c =
     let v = g.B.Backplane.view in
     let p = v c.args.plane.now in
     let now = v c.loop-row.plane in
-    let then = v c.finish-column.new.plane in
+    let then = v c.finish_column.new.plane in
     let n = c.args.n in
     let k = c.args.k in
     let h = c.args.header.now in
@@ -60,7 +60,7 @@ loop-row-preserved g c =
     let row = c.loop-row.row in
     let inv = c.loop-row.invariant in
     let e : m - row ≡ suc (m - (row + 1)) = omega arith in
-    let one = c.in-ok-finish-column.ensures in
+    let one = c.in_ok-finish_column.ensures in
     let x = now.cell (at + (1 + row)) in
     let same = good-same n p now h s (k + row) (at + (1 + row)) inv.0.live inv.1 in (
       kept-after p now then inv.0 (stored-kept (to_good n now h s (k + row) x) now then one),

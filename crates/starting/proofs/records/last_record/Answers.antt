@@ -12,12 +12,12 @@ returns g c =
     let at = c.args.at in
     let k = c.args.k in
     let n = c.blocks-stripes.result in
-    let blocks : n ≡ p.blocks = c.blocks-stripes.ensures ∙ ap (λ (x : Bytes). x.blocks) c.get-cell.ensures.kept in
-    let e = c.decode-head.ensures.value
-    ∙ ap (λ (x : List ℕ). head_in k n x) c.get-cell.ensures.got
+    let blocks : n ≡ p.blocks = c.blocks-stripes.ensures ∙ ap (λ (x : Bytes). x.blocks) c.get_cell.ensures.kept in
+    let e = c.decode_head.ensures.value
+    ∙ ap (λ (x : List ℕ). head_in k n x) c.get_cell.ensures.got
     ∙ ap (λ (s : ℕ). head_in k s (p.cell at)) blocks
-    ∙ ap (λ (j : ℕ). head_in j p.blocks (p.cell at)) c.requires.1 in
+    ∙ ap (λ (j : ℕ). head_in j p.blocks (p.cell at)) c.requires.k_value in
     record {
-      value = last-to-finish K p c.args.header.now at c.decode-head.result (λ z. omega arith) c.requires.0.used c.requires.2 e;
-      kept = c.get-cell.ensures.kept;
+      value = last-to-finish K p c.args.header.now at c.decode_head.result (λ z. omega arith) c.requires.ready.used c.requires.last_at e;
+      kept = c.get_cell.ensures.kept;
     }

@@ -12,8 +12,8 @@ pub returns : goal.returns
 returns g c =
     let on = coding_on g.B.Backplane g.C.Code in
     let p = view_of g.B.Backplane g.C.Code c.args.array.now in
-    let q = view_of g.B.Backplane g.C.Code c.start-on.new.array in
-    let u = c.start-on.new.array.header in
-    let r = c.start-on.result in
-    let ends = subst (λ (x : Bytes). Ends Sector [] (start_on (on x) x) x None (reply_of acked r) q u) c.power-up.ensures c.start-on.ensures in
+    let q = view_of g.B.Backplane g.C.Code c.start_on.new.array in
+    let u = c.start_on.new.array.header in
+    let r = c.start_on.result in
+    let ends = subst (λ (x : Bytes). Ends Sector [] (start_on (on x) x) x None (reply_of acked r) q u) c.power_up.ensures c.start_on.ensures in
     inr (long-enough _ c.requires, subst (λ (v : Verdict (List ℕ)). Ends Sector [] v (switched true p) None (reply_of acked r) q u) (start-same (on p) p) ends)

@@ -14,7 +14,7 @@ returns g c =
     let live = (g.B.Backplane.view c.args.plane.now).live in
     let good = good_of c.args.header.now in
     let at = good_at n live good s j in
-    let value = ap not c.is-lost.ensures ∙ not-lost (ltb j n) at (lt-ltb j n c.requires) in
+    let value = ap not c.is_lost.ensures ∙ not-lost (ltb j n) at (lt-ltb j n c.requires) in
     record {
       value = value;
       live = λ e. (and_parts (live (slot_of n s j)) (ltb s (good (slot_of n s j))) (sym value ∙ e)).0;

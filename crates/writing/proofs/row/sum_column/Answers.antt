@@ -11,4 +11,4 @@ returns c =
     let e : w ≡ 512 = omega arith in
     let same = column-is row at w e in
     let full : length (take w (drop (512 * at) row)) ≡ 512 = ap length same ∙ full-column row at c.requires.room in
-    c.sum-into.ensures.whole (omega arith) (omega arith) ∙ ap (λ (x : List ℕ). sum_of x c.args.block.now) same
+    c.sum_into.ensures.whole (omega arith) (omega arith) ∙ ap (λ (x : List ℕ). sum_of x c.args.block.now) same

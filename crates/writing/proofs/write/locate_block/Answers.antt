@@ -7,10 +7,10 @@ pub returns : goal.returns
 returns g c =
     let p = g.B.Backplane.view c.args.plane.now in
     let block : ℕ = c.args.block in
-    let k : ℕ = c.data-columns.result in
+    let k : ℕ = c.data_columns.result in
     let least : g.C.Code.rows + 2 ≤ p.slots = c.requires.sized.least in
     let slots : c.args.n ≡ p.slots = c.requires.slots in
-    let columns : k ≡ p.slots - g.C.Code.rows = c.data-columns.ensures in
+    let columns : k ≡ p.slots - g.C.Code.rows = c.data_columns.ensures in
     let some : 0 < k = omega arith in
     let at = c.locate.ensures.place some in
     let back = c.locate.ensures.back some in

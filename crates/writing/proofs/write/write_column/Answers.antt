@@ -19,17 +19,17 @@ returns g c =
     let x = c.args.bytes.now in
     let p = view_of g.B.Backplane g.C.Code a in
     let on = coding_on g.B.Backplane g.C.Code in
-    let m = g.B.Backplane.view c.judge-write.new.plane in
-    let q = view_of g.B.Backplane g.C.Code c.append-write.new.array in
-    let u = c.append-write.new.array.header in
-    let r = c.append-write.result in
-    let d = c.find-delta.new.delta in
+    let m = g.B.Backplane.view c.judge_write.new.plane in
+    let q = view_of g.B.Backplane g.C.Code c.append_write.new.array in
+    let u = c.append_write.new.array.header in
+    let r = c.append_write.result in
+    let d = c.find_delta.new.delta in
     let least : g.C.Code.rows + 2 ≤ p.slots = c.requires.ready.sized.least in
     let slots : n ≡ p.slots = c.requires.slots in
     let w : n ≡ width (on p) = omega arith in
-    let judged = c.in-ok-judge-write.ensures in
+    let judged = c.in_ok-judge_write.ensures in
     let same : m ≡ p = judged.kept in
-    let found : d ≡ sum_of (row_of (on p) p h s j) x = subst (λ (y : Bytes). d ≡ sum_of (row_of (on y) y h s j) x) same c.find-delta.ensures.found in
-    let made = subst (λ (y : Bytes). Made (appending (on y) y h (write s j d x)) Same (tt {0}) (Some (grown (on y) y h (write s j d x))) y r q u) (c.find-delta.ensures.kept ∙ same) c.append-write.ensures in
-    write-ends (on p) p h s j x a.header n w c.in-ok-judge-write.field-0 r q u judged.judged
+    let found : d ≡ sum_of (row_of (on p) p h s j) x = subst (λ (y : Bytes). d ≡ sum_of (row_of (on y) y h s j) x) same c.find_delta.ensures.found in
+    let made = subst (λ (y : Bytes). Made (appending (on y) y h (write s j d x)) Same (tt {0}) (Some (grown (on y) y h (write s j d x))) y r q u) (c.find_delta.ensures.kept ∙ same) c.append_write.ensures in
+    write-ends (on p) p h s j x a.header n w c.in_ok-judge_write.field-0 r q u judged.judged
     (subst (λ (y : List ℕ). Made (appending (on p) p h (write s j y x)) Same (tt {0}) (Some (grown (on p) p h (write s j y x))) p r q u) found made)

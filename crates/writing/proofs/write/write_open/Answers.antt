@@ -13,9 +13,9 @@ returns g c =
     let x = c.args.bytes.now in
     let p = view_of g.B.Backplane g.C.Code a in
     let K = coding_of g.B.Backplane g.C.Code a in
-    let q = view_of g.B.Backplane g.C.Code c.write-column.new.array in
-    let u = c.write-column.new.array.header in
-    let r = c.write-column.result in
-    let found = c.locate-block-stripe.ensures in
+    let q = view_of g.B.Backplane g.C.Code c.write_column.new.array in
+    let u = c.write_column.new.array.header in
+    let r = c.write_column.result in
+    let found = c.locate_block-stripe.ensures in
     subst (λ (j : ℕ). Ends Sector [] (write_open K p h (stripe_of K.k c.args.block) j x) p a.header (reply_of acked r) q u) found.column
-    (subst (λ (s : ℕ). Ends Sector [] (write_open K p h s c.locate-block-stripe.result.1 x) p a.header (reply_of acked r) q u) found.stripe c.write-column.ensures)
+    (subst (λ (s : ℕ). Ends Sector [] (write_open K p h s c.locate_block-stripe.result.1 x) p a.header (reply_of acked r) q u) found.stripe c.write_column.ensures)

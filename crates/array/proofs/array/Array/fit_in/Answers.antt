@@ -14,11 +14,11 @@ returns g c =
     let h = c.in-Some.header in
     let p = view_of g.B.Backplane g.C.Code a in
     let K = coding_of g.B.Backplane g.C.Code a in
-    let q = view_of g.B.Backplane g.C.Code c.fit-out.new.self in
-    let u = c.fit-out.new.self.header in
-    let r = c.fit-out.result in
-    let made = subst (λ (x : Header). Made ((to_header K p x ∷ []) ∷ []) (Fitting d) (tt {0}) (Some x) p r q u) c.unbuilt.ensures c.fit-out.ensures in
-    let within : not (ltb d p.slots) ≡ false = ap not (sym c.has-slot.ensures ∙ c.if-not-has-slot.false) in
+    let q = view_of g.B.Backplane g.C.Code c.fit_out.new.self in
+    let u = c.fit_out.new.self.header in
+    let r = c.fit_out.result in
+    let made = subst (λ (x : Header). Made ((to_header K p x ∷ []) ∷ []) (Fitting d) (tt {0}) (Some x) p r q u) c.unbuilt.ensures c.fit_out.ensures in
+    let within : not (ltb d p.slots) ≡ false = ap not (sym c.has_slot.ensures ∙ c.if-not-has_slot.false) in
     inr (
       long-enough _ c.requires,
       inr (

@@ -15,13 +15,13 @@ returns g c =
     let a = c.args.self.now in
     let p = view_of g.B.Backplane g.C.Code a in
     let sh = shape_for g.B.Backplane g.C.Code a in
-    let q = view_of g.B.Backplane g.C.Code c.format-out.new.self in
-    let u = c.format-out.new.self.header in
-    let r = c.format-out.result in
+    let q = view_of g.B.Backplane g.C.Code c.format_out.new.self in
+    let u = c.format_out.new.self.header in
+    let r = c.format_out.result in
     let known = c.in-Some.ensures.cases in
     let none : count p.slots (λ d. not (p.live d)) ≡ 0 = omega arith in
     let made = subst (λ (s : Shape). Made (formatted_by s zeros (header_bytes s (first_of s))) Same (tt {0}) (Some (first_of s)) (switched true p) r q u) known.1
-    (subst (λ (x : Bytes). Made (formatted_by c.in-Some.shape zeros (header_bytes c.in-Some.shape (first_of c.in-Some.shape))) Same (tt {0}) (Some (first_of c.in-Some.shape)) x r q u) c.power-on.ensures.view c.format-out.ensures) in
+    (subst (λ (x : Bytes). Made (formatted_by c.in-Some.shape zeros (header_bytes c.in-Some.shape (first_of c.in-Some.shape))) Same (tt {0}) (Some (first_of c.in-Some.shape)) x r q u) c.power_on.ensures.view c.format_out.ensures) in
     inr (
       long-enough _ c.requires,
       inr (

@@ -12,13 +12,13 @@ unfolding zeros
 returns g c =
     let sh = c.args.shape.now in
     let p = view_of g.B.Backplane g.C.Code c.args.self.now in
-    let q = view_of g.B.Backplane g.C.Code c.format-by.new.self in
-    let u = c.format-by.new.self.header in
-    let r = c.format-by.result in
+    let q = view_of g.B.Backplane g.C.Code c.format_by.new.self in
+    let u = c.format_by.new.self.header in
+    let r = c.format_by.result in
     let z = c.wipe.new.bytes in
-    let h = c.first-header-header.result in
-    let blank : c.wipe.new.bytes ≡ zeros = c.wipe.ensures ∙ ap (λ (n : ℕ). replicate n 0) c.requires.5 in
-    let encoded : c.encode.new.into ≡ header_bytes sh h = c.encode.ensures.bytes ∙ cond-true (eqb (length c.args.cell.now) 512) _ _ (eq-eqb _ 512 c.requires.6) in
-    subst (λ (x : Header). Made (formatted_by sh zeros (header_bytes sh x)) Same (tt {0}) (Some x) p r q u) c.first-header-header.ensures
+    let h = c.first_header-header.result in
+    let blank : c.wipe.new.bytes ≡ zeros = c.wipe.ensures ∙ ap (λ (n : ℕ). replicate n 0) c.requires.zero_len in
+    let encoded : c.encode.new.into ≡ header_bytes sh h = c.encode.ensures.bytes ∙ cond-true (eqb (length c.args.cell.now) 512) _ _ (eq-eqb _ 512 c.requires.cell_len) in
+    subst (λ (x : Header). Made (formatted_by sh zeros (header_bytes sh x)) Same (tt {0}) (Some x) p r q u) c.first_header-header.ensures
     (subst (λ (x : List ℕ). Made (formatted_by sh x (header_bytes sh h)) Same (tt {0}) (Some h) p r q u) blank
-    (subst (λ (x : List ℕ). Made (formatted_by sh z x) Same (tt {0}) (Some h) p r q u) encoded c.format-by.ensures))
+    (subst (λ (x : List ℕ). Made (formatted_by sh z x) Same (tt {0}) (Some h) p r q u) encoded c.format_by.ensures))

@@ -7,9 +7,9 @@ use Rattle.layout.proofs.header.Header.encodes_to.Goals as goal
 pub returns : goal.returns
 returns c =
     let x = c.args.cell.now in
-    let y = c.encode-cell.new.into in
+    let y = c.encode_cell.new.into in
     let d : Decides c.eq.result (x ≡ y) = slice_eq-Decides Decides-eqb x y c.eq.result c.eq.ensures in
     record {
-      value = same_from_decides _ _ d (bytes_eq-Decides x y) ∙ ap (bytes_eq x) c.encode-cell.ensures.bytes;
-      same = λ e. sym (d.0 e ∙ c.encode-cell.ensures.bytes);
+      value = same_from_decides _ _ d (bytes_eq-Decides x y) ∙ ap (bytes_eq x) c.encode_cell.ensures.bytes;
+      same = λ e. sym (d.0 e ∙ c.encode_cell.ensures.bytes);
     }
