@@ -21,8 +21,8 @@ use layout::shape::Shape;
 
 // How many slots are dead.
 fn dead_slots<B: Backplane>(backplane: &B) -> u32
-    ensures value { result ≡ count (view backplane.now).slots (λ d. not ((view backplane.now).live d)) }
-    ensures live { result ≡ 0 → (d : ℕ) → d < (view backplane.now).slots → (view backplane.now).live d ≡ true }
+    ensures value { result ≡ count (B.Backplane.view backplane.now).slots (λ d. not ((B.Backplane.view backplane.now).live d)) }
+    ensures live { result ≡ 0 → (d : ℕ) → d < (B.Backplane.view backplane.now).slots → (B.Backplane.view backplane.now).live d ≡ true }
 {
     let mut dead = 0;
     for d in 0..backplane.slots() {
@@ -32,7 +32,7 @@ fn dead_slots<B: Backplane>(backplane: &B) -> u32
 }
 
 fn is_dead<B: Backplane>(backplane: &B, slot: u32) -> u32
-    ensures { result ≡ (if not ((view backplane.now).live slot) then 1 else 0) }
+    ensures { result ≡ (if not ((B.Backplane.view backplane.now).live slot) then 1 else 0) }
 {
     if backplane.live(slot) { 0 } else { 1 }
 }
@@ -43,12 +43,12 @@ fn fill_block<B: Backplane>(
     block: u32,
     bytes: &[u8],
 ) -> Result<(), ArrayFault>
-    requires backplane_value { (view backplane.old).on ≡ true }
-    requires block_bound { block < (view backplane.old).blocks }
-    requires slot_bound { slot < (view backplane.old).slots }
-    requires slot_value { (view backplane.old).live slot ≡ true }
+    requires backplane_value { (B.Backplane.view backplane.old).on ≡ true }
+    requires block_bound { block < (B.Backplane.view backplane.old).blocks }
+    requires slot_bound { slot < (B.Backplane.view backplane.old).slots }
+    requires slot_value { (B.Backplane.view backplane.old).live slot ≡ true }
     requires bytes_len { length bytes.now ≡ 512 }
-    ensures { Performed (to_block slot block bytes.now ∷ []) (view backplane.old) result (view backplane.new) }
+    ensures { Performed (to_block slot block bytes.now ∷ []) (B.Backplane.view backplane.old) result (B.Backplane.view backplane.new) }
 {
     put_block(backplane, slot, block, bytes)?;
     Ok(())
@@ -61,12 +61,12 @@ fn fill_disk<B: Backplane>(
     blocks: u32,
     bytes: &[u8],
 ) -> Result<(), ArrayFault>
-    requires backplane_value { (view backplane.old).on ≡ true }
-    requires backplane_value_2 { (view backplane.old).blocks ≡ blocks }
-    requires slot_bound { slot < (view backplane.old).slots }
-    requires slot_value { (view backplane.old).live slot ≡ true }
+    requires backplane_value { (B.Backplane.view backplane.old).on ≡ true }
+    requires backplane_value_2 { (B.Backplane.view backplane.old).blocks ≡ blocks }
+    requires slot_bound { slot < (B.Backplane.view backplane.old).slots }
+    requires slot_value { (B.Backplane.view backplane.old).live slot ≡ true }
     requires bytes_len { length bytes.now ≡ 512 }
-    ensures { Performed (fill_disk bytes.now slot blocks 0) (view backplane.old) result (view backplane.new) }
+    ensures { Performed (fill_disk bytes.now slot blocks 0) (B.Backplane.view backplane.old) result (B.Backplane.view backplane.new) }
 {
     for b in 0..blocks {
         fill_block(backplane, slot, b, bytes)?;
@@ -81,13 +81,13 @@ fn fill_disks<B: Backplane>(
     blocks: u32,
     bytes: &[u8],
 ) -> Result<(), ArrayFault>
-    requires backplane_value { (view backplane.old).on ≡ true }
-    requires backplane_value_2 { (view backplane.old).blocks ≡ blocks }
-    requires backplane_value_3 { (view backplane.old).slots ≡ slots }
-    requires by_index { (d : ℕ) → d < slots → (view backplane.old).live d ≡ true }
+    requires backplane_value { (B.Backplane.view backplane.old).on ≡ true }
+    requires backplane_value_2 { (B.Backplane.view backplane.old).blocks ≡ blocks }
+    requires backplane_value_3 { (B.Backplane.view backplane.old).slots ≡ slots }
+    requires by_index { (d : ℕ) → d < slots → (B.Backplane.view backplane.old).live d ≡ true }
     requires bytes_len { length bytes.now ≡ 512 }
-    ensures stores { Performed (fill_disks bytes.now blocks slots 0) (view backplane.old) result (view backplane.new) }
-    ensures kept { OnOk result (Kept (view backplane.old) (view backplane.new)) }
+    ensures stores { Performed (fill_disks bytes.now blocks slots 0) (B.Backplane.view backplane.old) result (B.Backplane.view backplane.new) }
+    ensures kept { OnOk result (Kept (B.Backplane.view backplane.old) (B.Backplane.view backplane.new)) }
 {
     for d in 0..slots {
         fill_disk(backplane, d, blocks, bytes)?;
@@ -103,14 +103,14 @@ fn store_formatted<B: Backplane>(
     zero: &[u8],
     cell: &[u8],
 ) -> Result<(), ArrayFault>
-    requires backplane_value { (view backplane.old).on ≡ true }
-    requires cells_nonzero { 0 < (view backplane.old).cells }
-    requires backplane_value_2 { (view backplane.old).blocks ≡ blocks }
-    requires backplane_value_3 { (view backplane.old).slots ≡ slots }
-    requires by_index { (d : ℕ) → d < slots → (view backplane.old).live d ≡ true }
+    requires backplane_value { (B.Backplane.view backplane.old).on ≡ true }
+    requires cells_nonzero { 0 < (B.Backplane.view backplane.old).cells }
+    requires backplane_value_2 { (B.Backplane.view backplane.old).blocks ≡ blocks }
+    requires backplane_value_3 { (B.Backplane.view backplane.old).slots ≡ slots }
+    requires by_index { (d : ℕ) → d < slots → (B.Backplane.view backplane.old).live d ≡ true }
     requires zero_len { length zero.now ≡ 512 }
     requires cell_len { length cell.now ≡ 512 }
-    ensures { PerformedIn ((to_cell 0 zero.now ∷ []) ∷ (fill_disks zero.now blocks slots 0 ∷ ((to_cell 0 cell.now ∷ []) ∷ []))) (view backplane.old) result (view backplane.new) }
+    ensures { PerformedIn ((to_cell 0 zero.now ∷ []) ∷ (fill_disks zero.now blocks slots 0 ∷ ((to_cell 0 cell.now ∷ []) ∷ []))) (B.Backplane.view backplane.old) result (B.Backplane.view backplane.new) }
 {
     put_cell(backplane, 0, zero)?;
     fill_disks(backplane, slots, blocks, zero)?;

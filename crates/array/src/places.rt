@@ -16,8 +16,8 @@ pub(crate) fn put_cell<B: Backplane>(
     at: u32,
     bytes: &[u8],
 ) -> Result<(), LogFault>
-    requires { fault_of (to_cell at bytes.now) (view backplane.old) ≡ None }
-    ensures { MatchResult result (λ _. view backplane.new ≡ stored (to_cell at bytes.now) (view backplane.old)) (λ f. (f ≡ AtCell (Cut (OfCell at))) × CutBy Sector (to_cell at bytes.now) (view backplane.old) (view backplane.new)) }
+    requires { fault_of (to_cell at bytes.now) (B.Backplane.view backplane.old) ≡ None }
+    ensures { MatchResult result (λ _. B.Backplane.view backplane.new ≡ stored (to_cell at bytes.now) (B.Backplane.view backplane.old)) (λ f. (f ≡ AtCell (Cut (OfCell at))) × CutBy Sector (to_cell at bytes.now) (B.Backplane.view backplane.old) (B.Backplane.view backplane.new)) }
 {
     backplane.store_cell(at, bytes)?;
     Ok(())
@@ -29,17 +29,17 @@ pub(crate) fn put_block<B: Backplane>(
     block: u32,
     bytes: &[u8],
 ) -> Result<(), StripeFault>
-    requires { fault_of (to_block slot block bytes.now) (view backplane.old) ≡ None }
-    ensures { MatchResult result (λ _. view backplane.new ≡ stored (to_block slot block bytes.now) (view backplane.old)) (λ f. (f ≡ AtBlock (Cut (OfBlock slot block))) × CutBy Sector (to_block slot block bytes.now) (view backplane.old) (view backplane.new)) }
+    requires { fault_of (to_block slot block bytes.now) (B.Backplane.view backplane.old) ≡ None }
+    ensures { MatchResult result (λ _. B.Backplane.view backplane.new ≡ stored (to_block slot block bytes.now) (B.Backplane.view backplane.old)) (λ f. (f ≡ AtBlock (Cut (OfBlock slot block))) × CutBy Sector (to_block slot block bytes.now) (B.Backplane.view backplane.old) (B.Backplane.view backplane.new)) }
 {
     backplane.store_block(slot, block, bytes)?;
     Ok(())
 }
 
 pub(crate) fn get_cell<B: Backplane>(backplane: &mut B, at: u32, into: &mut [u8])
-    requires { fault_of (to_cell at into.old) (view backplane.old) ≡ None }
-    ensures got { into.new ≡ (view backplane.old).cell at }
-    ensures kept { view backplane.new ≡ view backplane.old }
+    requires { fault_of (to_cell at into.old) (B.Backplane.view backplane.old) ≡ None }
+    ensures got { into.new ≡ (B.Backplane.view backplane.old).cell at }
+    ensures kept { B.Backplane.view backplane.new ≡ B.Backplane.view backplane.old }
 {
     match backplane.read_cell(at, into) {
         Ok(()) => {}
@@ -48,9 +48,9 @@ pub(crate) fn get_cell<B: Backplane>(backplane: &mut B, at: u32, into: &mut [u8]
 }
 
 pub(crate) fn get_block<B: Backplane>(backplane: &mut B, slot: u32, block: u32, into: &mut [u8])
-    requires { fault_of (to_block slot block into.old) (view backplane.old) ≡ None }
-    ensures got { into.new ≡ (view backplane.old).block slot block }
-    ensures kept { view backplane.new ≡ view backplane.old }
+    requires { fault_of (to_block slot block into.old) (B.Backplane.view backplane.old) ≡ None }
+    ensures got { into.new ≡ (B.Backplane.view backplane.old).block slot block }
+    ensures kept { B.Backplane.view backplane.new ≡ B.Backplane.view backplane.old }
 {
     match backplane.read_block(slot, block, into) {
         Ok(()) => {}

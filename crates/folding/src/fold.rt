@@ -105,11 +105,11 @@ fn judge_fold<B: Backplane, C: Code>(
     stripe: u32,
     cell: &mut [u8],
 ) -> Result<u32, ArrayFault>
-    requires ready { Ready C.Code.rows (view plane.old) header.now }
-    requires slots { n ≡ (view plane.old).slots }
+    requires ready { Ready C.Code.rows (B.Backplane.view plane.old) header.now }
+    requires slots { n ≡ (B.Backplane.view plane.old).slots }
     requires cell { length cell.old ≡ 512 }
-    ensures judged { FoldJudged n (coding_on B.Backplane C.Code (view plane.old)) (view plane.old) header.now stripe result }
-    ensures kept { view plane.new ≡ view plane.old }
+    ensures judged { FoldJudged n (coding_on B.Backplane C.Code (B.Backplane.view plane.old)) (B.Backplane.view plane.old) header.now stripe result }
+    ensures kept { B.Backplane.view plane.new ≡ B.Backplane.view plane.old }
 {
     let k = data_columns::<B, C>(plane);
     let records = count_records::<B, C>(plane, k, header, stripe, cell);
@@ -130,11 +130,11 @@ fn count_records<B: Backplane, C: Code>(
     stripe: u32,
     cell: &mut [u8],
 ) -> u32
-    requires ready { Ready C.Code.rows (view plane.old) header.now }
-    requires columns { k ≡ (view plane.old).slots - C.Code.rows }
+    requires ready { Ready C.Code.rows (B.Backplane.view plane.old) header.now }
+    requires columns { k ≡ (B.Backplane.view plane.old).slots - C.Code.rows }
     requires cell { length cell.old ≡ 512 }
-    ensures value { result ≡ pending (coding_on B.Backplane C.Code (view plane.old)) stripe (log_of (coding_on B.Backplane C.Code (view plane.old)) (view plane.old) header.now) }
-    ensures kept { view plane.new ≡ view plane.old }
+    ensures value { result ≡ pending (coding_on B.Backplane C.Code (B.Backplane.view plane.old)) stripe (log_of (coding_on B.Backplane C.Code (B.Backplane.view plane.old)) (B.Backplane.view plane.old) header.now) }
+    ensures kept { B.Backplane.view plane.new ≡ B.Backplane.view plane.old }
 {
     match count_pending::<B, C>(plane, k, header.used, stripe, cell) {
         Ok(records) => records,
@@ -193,8 +193,8 @@ fn append_parity<B: Backplane, C: Code>(
 // A flag for each lost column of a stripe with n columns; the slots of the others are live.
 fn flag_lost<B: Backplane>(plane: &B, n: u8, header: &Header, stripe: u32) -> [bool; 16]
     requires { n ≤ 16 }
-    ensures flags { (c : ℕ) → c < n → flagged result c ≡ lost_at n (view plane.now).live (good_of header.now) stripe c }
-    ensures live { (c : ℕ) → c < n → flagged result c ≡ false → (view plane.now).live (slot_of n stripe c) ≡ true }
+    ensures flags { (c : ℕ) → c < n → flagged result c ≡ lost_at n (B.Backplane.view plane.now).live (good_of header.now) stripe c }
+    ensures live { (c : ℕ) → c < n → flagged result c ≡ false → (B.Backplane.view plane.now).live (slot_of n stripe c) ≡ true }
 {
     lost_columns(plane, n, header, stripe)
 }

@@ -25,19 +25,19 @@ pub(crate) fn store_parity<B: Backplane>(
     row: &[u8],
     cell: &[u8],
 ) -> Result<(), ArrayFault>
-    requires power { (view backplane.old).on ≡ true }
-    requires slots { n ≡ (view backplane.old).slots }
+    requires power { (B.Backplane.view backplane.old).on ≡ true }
+    requires slots { n ≡ (B.Backplane.view backplane.old).slots }
     requires few { n ≤ 16 }
     requires columns { k ≤ n }
     requires some { 0 < n }
-    requires stripe { stripe < (view backplane.old).blocks }
-    requires free { used + (1 + (n - k)) < (view backplane.old).cells }
+    requires stripe { stripe < (B.Backplane.view backplane.old).blocks }
+    requires free { used + (1 + (n - k)) < (B.Backplane.view backplane.old).cells }
     requires cells { used < 4096 }
-    requires live { (c : ℕ) → c < n → flagged lost.now c ≡ false → (view backplane.old).live (slot_of n stripe c) ≡ true }
+    requires live { (c : ℕ) → c < n → flagged lost.now c ≡ false → (B.Backplane.view backplane.old).live (slot_of n stripe c) ≡ true }
     requires head { length head.now ≡ 512 }
     requires room { length row.now ≡ 8192 }
     requires cell { length cell.now ≡ 512 }
-    ensures { PerformedIn (parity_stores used n k (n - k) stripe lost.now head.now row.now cell.now) (view backplane.old) result (view backplane.new) }
+    ensures { PerformedIn (parity_stores used n k (n - k) stripe lost.now head.now row.now cell.now) (B.Backplane.view backplane.old) result (B.Backplane.view backplane.new) }
 {
     store_record(backplane, used, n, k, head, row)?;
     put_cell(backplane, 0, cell)?;
@@ -54,15 +54,15 @@ fn store_record<B: Backplane>(
     head: &[u8],
     row: &[u8],
 ) -> Result<(), ArrayFault>
-    requires power { (view backplane.old).on ≡ true }
+    requires power { (B.Backplane.view backplane.old).on ≡ true }
     requires few { n ≤ 16 }
     requires columns { k ≤ n }
-    requires free { used + (1 + (n - k)) < (view backplane.old).cells }
+    requires free { used + (1 + (n - k)) < (B.Backplane.view backplane.old).cells }
     requires cells { used < 4096 }
     requires head { length head.now ≡ 512 }
     requires room { length row.now ≡ 8192 }
-    ensures stores { Performed (to_cell (used + 1) head.now ∷ row_cells k row.now (used + 2) (n - k) 0) (view backplane.old) result (view backplane.new) }
-    ensures kept { OnOk result (Kept (view backplane.old) (view backplane.new)) }
+    ensures stores { Performed (to_cell (used + 1) head.now ∷ row_cells k row.now (used + 2) (n - k) 0) (B.Backplane.view backplane.old) result (B.Backplane.view backplane.new) }
+    ensures kept { OnOk result (Kept (B.Backplane.view backplane.old) (B.Backplane.view backplane.new)) }
 {
     put_cell(backplane, used + 1, head)?;
     store_checks(backplane, used + 2, n, k, row)?;
@@ -77,14 +77,14 @@ fn store_checks<B: Backplane>(
     k: u8,
     row: &[u8],
 ) -> Result<(), ArrayFault>
-    requires power { (view backplane.old).on ≡ true }
+    requires power { (B.Backplane.view backplane.old).on ≡ true }
     requires few { n ≤ 16 }
     requires columns { k ≤ n }
-    requires free { at + (n - k) ≤ (view backplane.old).cells }
+    requires free { at + (n - k) ≤ (B.Backplane.view backplane.old).cells }
     requires cells { at < 4100 }
     requires room { length row.now ≡ 8192 }
-    ensures stores { Performed (row_cells k row.now at (n - k) 0) (view backplane.old) result (view backplane.new) }
-    ensures kept { OnOk result (Kept (view backplane.old) (view backplane.new)) }
+    ensures stores { Performed (row_cells k row.now at (n - k) 0) (B.Backplane.view backplane.old) result (B.Backplane.view backplane.new) }
+    ensures kept { OnOk result (Kept (B.Backplane.view backplane.old) (B.Backplane.view backplane.new)) }
 {
     for r in 0..n - k {
         store_check(backplane, at + r as u32, k + r, row)?;
@@ -99,21 +99,21 @@ fn store_check<B: Backplane>(
     column: u8,
     row: &[u8],
 ) -> Result<(), ArrayFault>
-    requires power { (view backplane.old).on ≡ true }
-    requires cell { at < (view backplane.old).cells }
+    requires power { (B.Backplane.view backplane.old).on ≡ true }
+    requires cell { at < (B.Backplane.view backplane.old).cells }
     requires column { column < 16 }
     requires room { length row.now ≡ 8192 }
-    ensures { Performed (to_cell at (column_in row.now column) ∷ []) (view backplane.old) result (view backplane.new) }
+    ensures { Performed (to_cell at (column_in row.now column) ∷ []) (B.Backplane.view backplane.old) result (B.Backplane.view backplane.new) }
 {
     let from = BLOCK * column as usize;
     store_cell(backplane, at, &row[from..from + BLOCK])
 }
 
 fn store_cell<B: Backplane>(backplane: &mut B, at: u32, bytes: &[u8]) -> Result<(), ArrayFault>
-    requires power { (view backplane.old).on ≡ true }
-    requires cell { at < (view backplane.old).cells }
+    requires power { (B.Backplane.view backplane.old).on ≡ true }
+    requires cell { at < (B.Backplane.view backplane.old).cells }
     requires size { length bytes.now ≡ 512 }
-    ensures { Performed (to_cell at bytes.now ∷ []) (view backplane.old) result (view backplane.new) }
+    ensures { Performed (to_cell at bytes.now ∷ []) (B.Backplane.view backplane.old) result (B.Backplane.view backplane.new) }
 {
     put_cell(backplane, at, bytes)?;
     Ok(())
@@ -128,14 +128,14 @@ fn finish_checks<B: Backplane>(
     lost: &[bool; 16],
     row: &[u8],
 ) -> Result<(), ArrayFault>
-    requires power { (view backplane.old).on ≡ true }
-    requires slots { n ≡ (view backplane.old).slots }
+    requires power { (B.Backplane.view backplane.old).on ≡ true }
+    requires slots { n ≡ (B.Backplane.view backplane.old).slots }
     requires few { n ≤ 16 }
     requires columns { k ≤ n }
-    requires stripe { stripe < (view backplane.old).blocks }
-    requires live { (c : ℕ) → c < n → flagged lost.now c ≡ false → (view backplane.old).live (slot_of n stripe c) ≡ true }
+    requires stripe { stripe < (B.Backplane.view backplane.old).blocks }
+    requires live { (c : ℕ) → c < n → flagged lost.now c ≡ false → (B.Backplane.view backplane.old).live (slot_of n stripe c) ≡ true }
     requires room { length row.now ≡ 8192 }
-    ensures { Performed (row_blocks n k stripe lost.now row.now (n - k) 0) (view backplane.old) result (view backplane.new) }
+    ensures { Performed (row_blocks n k stripe lost.now row.now (n - k) 0) (B.Backplane.view backplane.old) result (B.Backplane.view backplane.new) }
 {
     for r in 0..n - k {
         finish_check(backplane, n, stripe, k + r, !lost[(k + r) as usize], row)?;
@@ -152,14 +152,14 @@ fn finish_check<B: Backplane>(
     good: bool,
     row: &[u8],
 ) -> Result<(), ArrayFault>
-    requires power { (view backplane.old).on ≡ true }
-    requires slots { n ≡ (view backplane.old).slots }
+    requires power { (B.Backplane.view backplane.old).on ≡ true }
+    requires slots { n ≡ (B.Backplane.view backplane.old).slots }
     requires few { n ≤ 16 }
     requires column { column < n }
-    requires stripe { stripe < (view backplane.old).blocks }
-    requires live { good ≡ true → (view backplane.old).live (slot_of n stripe column) ≡ true }
+    requires stripe { stripe < (B.Backplane.view backplane.old).blocks }
+    requires live { good ≡ true → (B.Backplane.view backplane.old).live (slot_of n stripe column) ≡ true }
     requires room { length row.now ≡ 8192 }
-    ensures { Performed (if good then to_block (slot_of n stripe column) stripe (column_in row.now column) ∷ [] else []) (view backplane.old) result (view backplane.new) }
+    ensures { Performed (if good then to_block (slot_of n stripe column) stripe (column_in row.now column) ∷ [] else []) (B.Backplane.view backplane.old) result (B.Backplane.view backplane.new) }
 {
     let (slot, block) = place(n, stripe, column);
     let from = BLOCK * column as usize;
@@ -173,12 +173,12 @@ fn finish_block<B: Backplane>(
     block: u32,
     bytes: &[u8],
 ) -> Result<(), ArrayFault>
-    requires power { (view backplane.old).on ≡ true }
-    requires slot { slot < (view backplane.old).slots }
-    requires live { good ≡ true → (view backplane.old).live slot ≡ true }
-    requires block { block < (view backplane.old).blocks }
+    requires power { (B.Backplane.view backplane.old).on ≡ true }
+    requires slot { slot < (B.Backplane.view backplane.old).slots }
+    requires live { good ≡ true → (B.Backplane.view backplane.old).live slot ≡ true }
+    requires block { block < (B.Backplane.view backplane.old).blocks }
     requires size { length bytes.now ≡ 512 }
-    ensures { Performed (if good then to_block slot block bytes.now ∷ [] else []) (view backplane.old) result (view backplane.new) }
+    ensures { Performed (if good then to_block slot block bytes.now ∷ [] else []) (B.Backplane.view backplane.old) result (B.Backplane.view backplane.new) }
 {
     if good {
         put_block(backplane, slot, block, bytes)?;

@@ -16,8 +16,8 @@ pub(crate) fn put_cell<B: Backplane>(
     at: u32,
     bytes: &[u8],
 ) -> Result<(), LogFault>
-    requires { fault_of (to_cell at bytes.now) (view backplane.old) ≡ None }
-    ensures { MatchResult result (λ _. view backplane.new ≡ stored (to_cell at bytes.now) (view backplane.old)) (λ f. (f ≡ AtCell (Cut (OfCell at))) × CutBy Sector (to_cell at bytes.now) (view backplane.old) (view backplane.new)) }
+    requires { fault_of (to_cell at bytes.now) (B.Backplane.view backplane.old) ≡ None }
+    ensures { MatchResult result (λ _. B.Backplane.view backplane.new ≡ stored (to_cell at bytes.now) (B.Backplane.view backplane.old)) (λ f. (f ≡ AtCell (Cut (OfCell at))) × CutBy Sector (to_cell at bytes.now) (B.Backplane.view backplane.old) (B.Backplane.view backplane.new)) }
 {
     backplane.store_cell(at, bytes)?;
     Ok(())
@@ -29,8 +29,8 @@ pub(crate) fn put_block<B: Backplane>(
     block: u32,
     bytes: &[u8],
 ) -> Result<(), StripeFault>
-    requires { fault_of (to_block slot block bytes.now) (view backplane.old) ≡ None }
-    ensures { MatchResult result (λ _. view backplane.new ≡ stored (to_block slot block bytes.now) (view backplane.old)) (λ f. (f ≡ AtBlock (Cut (OfBlock slot block))) × CutBy Sector (to_block slot block bytes.now) (view backplane.old) (view backplane.new)) }
+    requires { fault_of (to_block slot block bytes.now) (B.Backplane.view backplane.old) ≡ None }
+    ensures { MatchResult result (λ _. B.Backplane.view backplane.new ≡ stored (to_block slot block bytes.now) (B.Backplane.view backplane.old)) (λ f. (f ≡ AtBlock (Cut (OfBlock slot block))) × CutBy Sector (to_block slot block bytes.now) (B.Backplane.view backplane.old) (B.Backplane.view backplane.new)) }
 {
     backplane.store_block(slot, block, bytes)?;
     Ok(())

@@ -120,18 +120,18 @@ fn read_column<B: Backplane, C: Code>(
     row: &mut [u8],
     cell: &mut [u8],
 ) -> Result<(), ArrayFault>
-    requires opened { is_open (coding_on B.Backplane C.Code (view plane.old)) (view plane.old) header.now ≡ true }
-    requires power { (view plane.old).on ≡ true }
-    requires slots { n ≡ (view plane.old).slots }
-    requires columns { n ≡ width (coding_on B.Backplane C.Code (view plane.old)) }
+    requires opened { is_open (coding_on B.Backplane C.Code (B.Backplane.view plane.old)) (B.Backplane.view plane.old) header.now ≡ true }
+    requires power { (B.Backplane.view plane.old).on ≡ true }
+    requires slots { n ≡ (B.Backplane.view plane.old).slots }
+    requires columns { n ≡ width (coding_on B.Backplane C.Code (B.Backplane.view plane.old)) }
     requires few { n ≤ 16 }
-    requires stripe { stripe < (view plane.old).blocks }
+    requires stripe { stripe < (B.Backplane.view plane.old).blocks }
     requires column { column < n }
     requires size { length into.old ≡ 512 }
     requires room { length row.old ≡ 8192 }
     requires cell { length cell.old ≡ 512 }
-    ensures does { ColumnRead n (coding_on B.Backplane C.Code (view plane.old)) (view plane.old) header.now stripe column into.old result into.new }
-    ensures kept { view plane.new ≡ view plane.old }
+    ensures does { ColumnRead n (coding_on B.Backplane C.Code (B.Backplane.view plane.old)) (B.Backplane.view plane.old) header.now stripe column into.old result into.new }
+    ensures kept { B.Backplane.view plane.new ≡ B.Backplane.view plane.old }
 {
     if is_good(plane, n, header, stripe, column) {
         read_good(plane, n, stripe, column, into);
@@ -146,14 +146,14 @@ fn read_column<B: Backplane, C: Code>(
 }
 
 fn read_good<B: Backplane>(plane: &mut B, n: u8, stripe: u32, column: u8, into: &mut [u8])
-    requires power { (view plane.old).on ≡ true }
-    requires slots { n ≡ (view plane.old).slots }
-    requires stripe { stripe < (view plane.old).blocks }
+    requires power { (B.Backplane.view plane.old).on ≡ true }
+    requires slots { n ≡ (B.Backplane.view plane.old).slots }
+    requires stripe { stripe < (B.Backplane.view plane.old).blocks }
     requires column { column < n }
-    requires live { (view plane.old).live (slot_of n stripe column) ≡ true }
+    requires live { (B.Backplane.view plane.old).live (slot_of n stripe column) ≡ true }
     requires size { length into.old ≡ 512 }
-    ensures got { into.new ≡ (view plane.old).block (slot_of n stripe column) stripe }
-    ensures kept { view plane.new ≡ view plane.old }
+    ensures got { into.new ≡ (B.Backplane.view plane.old).block (slot_of n stripe column) stripe }
+    ensures kept { B.Backplane.view plane.new ≡ B.Backplane.view plane.old }
 {
     let (slot, block) = place(n, stripe, column);
     get_block(plane, slot, block, into);
@@ -169,17 +169,17 @@ fn read_lost<B: Backplane, C: Code>(
     row: &mut [u8],
     cell: &mut [u8],
 )
-    requires opened { is_open (coding_on B.Backplane C.Code (view plane.old)) (view plane.old) header.now ≡ true }
-    requires columns { n ≡ width (coding_on B.Backplane C.Code (view plane.old)) }
+    requires opened { is_open (coding_on B.Backplane C.Code (B.Backplane.view plane.old)) (B.Backplane.view plane.old) header.now ≡ true }
+    requires columns { n ≡ width (coding_on B.Backplane C.Code (B.Backplane.view plane.old)) }
     requires few { n ≤ 16 }
-    requires stripe { stripe < (view plane.old).blocks }
+    requires stripe { stripe < (B.Backplane.view plane.old).blocks }
     requires column { column < n }
-    requires repairable { missing n (view plane.old).live (good_of header.now) stripe ≤ C.Code.rows }
+    requires repairable { missing n (B.Backplane.view plane.old).live (good_of header.now) stripe ≤ C.Code.rows }
     requires size { length into.old ≡ 512 }
     requires room { length row.old ≡ 8192 }
     requires cell { length cell.old ≡ 512 }
-    ensures got { into.new ≡ row_of (coding_on B.Backplane C.Code (view plane.old)) (view plane.old) header.now stripe column }
-    ensures kept { view plane.new ≡ view plane.old }
+    ensures got { into.new ≡ row_of (coding_on B.Backplane C.Code (B.Backplane.view plane.old)) (B.Backplane.view plane.old) header.now stripe column }
+    ensures kept { B.Backplane.view plane.new ≡ B.Backplane.view plane.old }
 {
     load_row::<B, C>(plane, n, header, stripe, row, cell);
     copy_column(row, column, into);

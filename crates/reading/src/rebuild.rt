@@ -70,7 +70,7 @@ fn next_stripe<B: Backplane, C: Code>(
     slot: u32,
 ) -> Result<u32, ArrayFault>
     requires { slot < 16 }
-    ensures { NextStripe n C.Code.rows (view plane.now) header.now slot result }
+    ensures { NextStripe n C.Code.rows (B.Backplane.view plane.now) header.now slot result }
 {
     if !plane.live(slot) {
         return Err(ArrayFault::OfBackplane(BackplaneFault::Dead));
@@ -126,16 +126,16 @@ fn find_block<B: Backplane, C: Code>(
     row: &mut [u8],
     cell: &mut [u8],
 )
-    requires opened { is_open (coding_on B.Backplane C.Code (view plane.old)) (view plane.old) header.now ≡ true }
-    requires ready { Ready C.Code.rows (view plane.old) header.now }
-    requires slot { slot < (view plane.old).slots }
-    requires stripe { stripe < (view plane.old).blocks }
-    requires repairable { missing (view plane.old).slots (view plane.old).live (good_of header.now) stripe ≤ C.Code.rows }
+    requires opened { is_open (coding_on B.Backplane C.Code (B.Backplane.view plane.old)) (B.Backplane.view plane.old) header.now ≡ true }
+    requires ready { Ready C.Code.rows (B.Backplane.view plane.old) header.now }
+    requires slot { slot < (B.Backplane.view plane.old).slots }
+    requires stripe { stripe < (B.Backplane.view plane.old).blocks }
+    requires repairable { missing (B.Backplane.view plane.old).slots (B.Backplane.view plane.old).live (good_of header.now) stripe ≤ C.Code.rows }
     requires size { length block.old ≡ 512 }
     requires room { length row.old ≡ 8192 }
     requires cell { length cell.old ≡ 512 }
-    ensures found { block.new ≡ rebuilt (coding_on B.Backplane C.Code (view plane.old)) (view plane.old) header.now slot stripe }
-    ensures kept { view plane.new ≡ view plane.old }
+    ensures found { block.new ≡ rebuilt (coding_on B.Backplane C.Code (B.Backplane.view plane.old)) (B.Backplane.view plane.old) header.now slot stripe }
+    ensures kept { B.Backplane.view plane.new ≡ B.Backplane.view plane.old }
 {
     let n = plane.slots() as u8;
     let column = column_on(n, stripe, slot);
@@ -153,17 +153,17 @@ fn find_column<B: Backplane, C: Code>(
     row: &mut [u8],
     cell: &mut [u8],
 )
-    requires opened { is_open (coding_on B.Backplane C.Code (view plane.old)) (view plane.old) header.now ≡ true }
-    requires columns { n ≡ width (coding_on B.Backplane C.Code (view plane.old)) }
+    requires opened { is_open (coding_on B.Backplane C.Code (B.Backplane.view plane.old)) (B.Backplane.view plane.old) header.now ≡ true }
+    requires columns { n ≡ width (coding_on B.Backplane C.Code (B.Backplane.view plane.old)) }
     requires few { n ≤ 16 }
-    requires stripe { stripe < (view plane.old).blocks }
+    requires stripe { stripe < (B.Backplane.view plane.old).blocks }
     requires column { column < n }
-    requires repairable { missing n (view plane.old).live (good_of header.now) stripe ≤ C.Code.rows }
+    requires repairable { missing n (B.Backplane.view plane.old).live (good_of header.now) stripe ≤ C.Code.rows }
     requires size { length block.old ≡ 512 }
     requires room { length row.old ≡ 8192 }
     requires cell { length cell.old ≡ 512 }
-    ensures found { block.new ≡ settled_with (coding_on B.Backplane C.Code (view plane.old)) (log_of (coding_on B.Backplane C.Code (view plane.old)) (view plane.old) header.now) stripe column (row_of (coding_on B.Backplane C.Code (view plane.old)) (view plane.old) header.now stripe column) }
-    ensures kept { view plane.new ≡ view plane.old }
+    ensures found { block.new ≡ settled_with (coding_on B.Backplane C.Code (B.Backplane.view plane.old)) (log_of (coding_on B.Backplane C.Code (B.Backplane.view plane.old)) (B.Backplane.view plane.old) header.now) stripe column (row_of (coding_on B.Backplane C.Code (B.Backplane.view plane.old)) (B.Backplane.view plane.old) header.now stripe column) }
+    ensures kept { B.Backplane.view plane.new ≡ B.Backplane.view plane.old }
 {
     load_row::<B, C>(plane, n, header, stripe, row, cell);
     add_debt::<B, C>(plane, n, header, stripe, column, row, cell);
@@ -204,14 +204,14 @@ fn store_counted<B: Backplane>(
     block: &[u8],
     cell: &[u8],
 ) -> Result<(), ArrayFault>
-    requires power { (view plane.old).on ≡ true }
-    requires cells { 0 < (view plane.old).cells }
-    requires slot { slot < (view plane.old).slots }
-    requires live { (view plane.old).live slot ≡ true }
-    requires stripe { stripe < (view plane.old).blocks }
+    requires power { (B.Backplane.view plane.old).on ≡ true }
+    requires cells { 0 < (B.Backplane.view plane.old).cells }
+    requires slot { slot < (B.Backplane.view plane.old).slots }
+    requires live { (B.Backplane.view plane.old).live slot ≡ true }
+    requires stripe { stripe < (B.Backplane.view plane.old).blocks }
     requires size { length block.now ≡ 512 }
     requires cell { length cell.now ≡ 512 }
-    ensures { Performed (to_block slot stripe block.now ∷ (to_cell 0 cell.now ∷ [])) (view plane.old) result (view plane.new) }
+    ensures { Performed (to_block slot stripe block.now ∷ (to_cell 0 cell.now ∷ [])) (B.Backplane.view plane.old) result (B.Backplane.view plane.new) }
 {
     put_block(plane, slot, stripe, block)?;
     put_cell(plane, 0, cell)?;

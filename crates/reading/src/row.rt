@@ -28,8 +28,8 @@ pub(crate) fn is_good<B: Backplane>(
     column: u8,
 ) -> bool
     requires { column < n }
-    ensures value { result ≡ good_at n (view plane.now).live (good_of header.now) stripe column }
-    ensures live { result ≡ true → (view plane.now).live (slot_of n stripe column) ≡ true }
+    ensures value { result ≡ good_at n (B.Backplane.view plane.now).live (good_of header.now) stripe column }
+    ensures live { result ≡ true → (B.Backplane.view plane.now).live (slot_of n stripe column) ≡ true }
 {
     !is_lost(plane, n, header, stripe, column)
 }
@@ -43,14 +43,14 @@ pub(crate) fn load_row<B: Backplane, C: Code>(
     row: &mut [u8],
     cell: &mut [u8],
 )
-    requires opened { is_open (coding_on B.Backplane C.Code (view plane.old)) (view plane.old) header.now ≡ true }
-    requires columns { n ≡ width (coding_on B.Backplane C.Code (view plane.old)) }
-    requires stripe { stripe < (view plane.old).blocks }
-    requires repairable { missing n (view plane.old).live (good_of header.now) stripe ≤ C.Code.rows }
+    requires opened { is_open (coding_on B.Backplane C.Code (B.Backplane.view plane.old)) (B.Backplane.view plane.old) header.now ≡ true }
+    requires columns { n ≡ width (coding_on B.Backplane C.Code (B.Backplane.view plane.old)) }
+    requires stripe { stripe < (B.Backplane.view plane.old).blocks }
+    requires repairable { missing n (B.Backplane.view plane.old).live (good_of header.now) stripe ≤ C.Code.rows }
     requires room { length row.old ≡ 8192 }
     requires size { length cell.old ≡ 512 }
-    ensures holds { HoldsRow (coding_on B.Backplane C.Code (view plane.old)) (view plane.old) header.now stripe row.new }
-    ensures kept { view plane.new ≡ view plane.old }
+    ensures holds { HoldsRow (coding_on B.Backplane C.Code (B.Backplane.view plane.old)) (B.Backplane.view plane.old) header.now stripe row.new }
+    ensures kept { B.Backplane.view plane.new ≡ B.Backplane.view plane.old }
 {
     match row_of_stripe::<B, C>(plane, header, stripe, row, cell) {
         Ok(true) => {}
@@ -68,13 +68,13 @@ pub(crate) fn add_debt<B: Backplane, C: Code>(
     row: &mut [u8],
     cell: &mut [u8],
 )
-    requires opened { is_open (coding_on B.Backplane C.Code (view plane.old)) (view plane.old) header.now ≡ true }
-    requires columns { n ≡ width (coding_on B.Backplane C.Code (view plane.old)) }
+    requires opened { is_open (coding_on B.Backplane C.Code (B.Backplane.view plane.old)) (B.Backplane.view plane.old) header.now ≡ true }
+    requires columns { n ≡ width (coding_on B.Backplane C.Code (B.Backplane.view plane.old)) }
     requires column { column < n }
     requires room { length row.old ≡ 8192 }
     requires size { length cell.old ≡ 512 }
-    ensures settled { column_in row.new column ≡ settled_with (coding_on B.Backplane C.Code (view plane.old)) (log_of (coding_on B.Backplane C.Code (view plane.old)) (view plane.old) header.now) stripe column (column_in row.old column) }
-    ensures kept { view plane.new ≡ view plane.old }
+    ensures settled { column_in row.new column ≡ settled_with (coding_on B.Backplane C.Code (B.Backplane.view plane.old)) (log_of (coding_on B.Backplane C.Code (B.Backplane.view plane.old)) (B.Backplane.view plane.old) header.now) stripe column (column_in row.old column) }
+    ensures kept { B.Backplane.view plane.new ≡ B.Backplane.view plane.old }
 {
     match settle_column::<B, C>(plane, header, stripe, column, row, cell) {
         Ok(true) => {}

@@ -10,7 +10,7 @@ use layout::stripes::place;
 
 // Whether this is one of n columns, and its block of the stripe is lost: its slot is dead, or the stripe is not below that slot's good stripes.
 pub fn is_lost<B: Backplane>(plane: &B, n: u8, header: &Header, stripe: u32, column: u8) -> bool
-    ensures { result ≡ is_lost_of n (view plane.now).live (good_of header.now) stripe column }
+    ensures { result ≡ is_lost_of n (B.Backplane.view plane.now).live (good_of header.now) stripe column }
 {
     if column >= n {
         return false;
@@ -21,7 +21,7 @@ pub fn is_lost<B: Backplane>(plane: &B, n: u8, header: &Header, stripe: u32, col
 
 // A flag for each lost one of n columns; only sixteen columns are looked at.
 pub fn lost_columns<B: Backplane>(plane: &B, n: u8, header: &Header, stripe: u32) -> [bool; 16]
-    ensures { result ≡ lost_flags n (view plane.now).live (good_of header.now) stripe }
+    ensures { result ≡ lost_flags n (B.Backplane.view plane.now).live (good_of header.now) stripe }
 {
     let mut lost = [false; 16];
     for c in 0..16 {
@@ -32,7 +32,7 @@ pub fn lost_columns<B: Backplane>(plane: &B, n: u8, header: &Header, stripe: u32
 
 // How many of n columns are lost.
 pub fn count_lost<B: Backplane>(plane: &B, n: u8, header: &Header, stripe: u32) -> u32
-    ensures { result ≡ missing n (view plane.now).live (good_of header.now) stripe }
+    ensures { result ≡ missing n (B.Backplane.view plane.now).live (good_of header.now) stripe }
 {
     let mut lost = 0;
     for c in 0..n {

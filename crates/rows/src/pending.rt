@@ -37,11 +37,11 @@ fn read_head<B: Backplane, C: Code>(
     at: u32,
     cell: &mut [u8],
 ) -> Result<Option<Head>, BackplaneFault>
-    requires power { (view plane.old).on ≡ true }
-    requires place { at < (view plane.old).cells }
+    requires power { (B.Backplane.view plane.old).on ≡ true }
+    requires place { at < (B.Backplane.view plane.old).cells }
     requires size { length cell.old ≡ 512 }
-    ensures head { MatchResult result (λ o. (o ≡ head_at (byte_coding k C.Code.number C.Code.rows C.Code.check C.Code.solved) (view plane.old) used at) × IfSome o (λ h. (at + record_cells C.Code.rows h ≤ used + 1) × column_below k h)) (λ _. ⊥) }
-    ensures kept { view plane.new ≡ view plane.old }
+    ensures head { MatchResult result (λ o. (o ≡ head_at (byte_coding k C.Code.number C.Code.rows C.Code.check C.Code.solved) (B.Backplane.view plane.old) used at) × IfSome o (λ h. (at + record_cells C.Code.rows h ≤ used + 1) × column_below k h)) (λ _. ⊥) }
+    ensures kept { B.Backplane.view plane.new ≡ B.Backplane.view plane.old }
 {
     plane.read_cell(at, cell)?;
     let head = decode_head(k, plane.blocks(), cell);
@@ -65,13 +65,13 @@ pub(crate) fn last_parity<B: Backplane, C: Code>(
     stripe: u32,
     cell: &mut [u8],
 ) -> Result<Option<u32>, BackplaneFault>
-    requires power { (view plane.old).on ≡ true }
-    requires cells { used < (view plane.old).cells }
+    requires power { (B.Backplane.view plane.old).on ≡ true }
+    requires cells { used < (B.Backplane.view plane.old).cells }
     requires few { used < 4096 }
     requires size { length cell.old ≡ 512 }
-    ensures last { MatchResult result (λ o. o ≡ last_parity (byte_coding k C.Code.number C.Code.rows C.Code.check C.Code.solved) (view plane.old) used stripe) (λ _. ⊥) }
+    ensures last { MatchResult result (λ o. o ≡ last_parity (byte_coding k C.Code.number C.Code.rows C.Code.check C.Code.solved) (B.Backplane.view plane.old) used stripe) (λ _. ⊥) }
     ensures within { MatchResult result (λ o. IfSome o (λ i. i < 4096)) (λ _. ⊥) }
-    ensures kept { view plane.new ≡ view plane.old }
+    ensures kept { B.Backplane.view plane.new ≡ B.Backplane.view plane.old }
 {
     let rows = C::check_rows() as u32;
     let mut last = None;
@@ -125,15 +125,15 @@ fn add_record<B: Backplane, C: Code>(
     row: &mut [u8],
     cell: &mut [u8],
 ) -> Result<(), BackplaneFault>
-    requires power { (view plane.old).on ≡ true }
-    requires place { at + 1 < (view plane.old).cells }
+    requires power { (B.Backplane.view plane.old).on ≡ true }
+    requires place { at + 1 < (B.Backplane.view plane.old).cells }
     requires number { at < 4096 }
     requires size { length cell.old ≡ 512 }
     requires few { k ≤ 12 }
     requires column { column_below k head }
     requires room { 512 * (k + C.Code.rows) ≤ length row.old }
-    ensures each { MatchResult result (λ _. (c : ℕ) → c < k + C.Code.rows → column_in row.new c ≡ grow_step (byte_coding k C.Code.number C.Code.rows C.Code.check C.Code.solved) (view plane.old) (flagged leave.now) stripe c at head (column_in row.old c)) (λ _. ⊥) }
-    ensures kept { view plane.new ≡ view plane.old }
+    ensures each { MatchResult result (λ _. (c : ℕ) → c < k + C.Code.rows → column_in row.new c ≡ grow_step (byte_coding k C.Code.number C.Code.rows C.Code.check C.Code.solved) (B.Backplane.view plane.old) (flagged leave.now) stripe c at head (column_in row.old c)) (λ _. ⊥) }
+    ensures kept { B.Backplane.view plane.new ≡ B.Backplane.view plane.old }
 {
     if let Head::OfWrite(s, column) = head {
         if stripe == s {
@@ -167,15 +167,15 @@ pub(crate) fn add_pending<B: Backplane, C: Code>(
     row: &mut [u8],
     cell: &mut [u8],
 ) -> Result<(), BackplaneFault>
-    requires power { (view plane.old).on ≡ true }
-    requires cells { used < (view plane.old).cells }
+    requires power { (B.Backplane.view plane.old).on ≡ true }
+    requires cells { used < (B.Backplane.view plane.old).cells }
     requires number { used < 4096 }
     requires size { length cell.old ≡ 512 }
     requires few { k ≤ 12 }
     requires room { 512 * (k + C.Code.rows) ≤ length row.old }
     requires within { IfSome last (λ i. i < 4096) }
-    ensures each { MatchResult result (λ _. (c : ℕ) → c < k + C.Code.rows → column_in row.new c ≡ rest (byte_coding k C.Code.number C.Code.rows C.Code.check C.Code.solved) (grow_step (byte_coding k C.Code.number C.Code.rows C.Code.check C.Code.solved) (view plane.old) (flagged leave.now) stripe c) (view plane.old) used (after C.Code.rows last) (column_in row.old c)) (λ _. ⊥) }
-    ensures kept { view plane.new ≡ view plane.old }
+    ensures each { MatchResult result (λ _. (c : ℕ) → c < k + C.Code.rows → column_in row.new c ≡ rest (byte_coding k C.Code.number C.Code.rows C.Code.check C.Code.solved) (grow_step (byte_coding k C.Code.number C.Code.rows C.Code.check C.Code.solved) (B.Backplane.view plane.old) (flagged leave.now) stripe c) (B.Backplane.view plane.old) used (after C.Code.rows last) (column_in row.old c)) (λ _. ⊥) }
+    ensures kept { B.Backplane.view plane.new ≡ B.Backplane.view plane.old }
 {
     let rows = C::check_rows() as u32;
     let mut at = first_after(last, rows);

@@ -33,14 +33,14 @@ fn read_block<B: Backplane>(
     lost: bool,
     into: &mut [u8],
 ) -> Result<(), BackplaneFault>
-    requires power { (view plane.old).on ≡ true }
-    requires slots { (view plane.old).slots ≡ n }
-    requires stripe { stripe < (view plane.old).blocks }
+    requires power { (B.Backplane.view plane.old).on ≡ true }
+    requires slots { (B.Backplane.view plane.old).slots ≡ n }
+    requires stripe { stripe < (B.Backplane.view plane.old).blocks }
     requires column { column < n }
-    requires live { lost ≡ false → (view plane.old).live (slot_of n stripe column) ≡ true }
+    requires live { lost ≡ false → (B.Backplane.view plane.old).live (slot_of n stripe column) ≡ true }
     requires size { length into.old ≡ 512 }
-    ensures block { MatchResult result (λ _. into.new ≡ (if lost then zeros else (view plane.old).block (slot_of n stripe column) stripe)) (λ _. ⊥) }
-    ensures kept { view plane.new ≡ view plane.old }
+    ensures block { MatchResult result (λ _. into.new ≡ (if lost then zeros else (B.Backplane.view plane.old).block (slot_of n stripe column) stripe)) (λ _. ⊥) }
+    ensures kept { B.Backplane.view plane.new ≡ B.Backplane.view plane.old }
 {
     if lost {
         wipe(into);
@@ -60,14 +60,14 @@ fn read_column<B: Backplane>(
     lost: bool,
     row: &mut [u8],
 ) -> Result<(), BackplaneFault>
-    requires power { (view plane.old).on ≡ true }
-    requires slots { (view plane.old).slots ≡ n }
-    requires stripe { stripe < (view plane.old).blocks }
+    requires power { (B.Backplane.view plane.old).on ≡ true }
+    requires slots { (B.Backplane.view plane.old).slots ≡ n }
+    requires stripe { stripe < (B.Backplane.view plane.old).blocks }
     requires column { column < n }
-    requires live { lost ≡ false → (view plane.old).live (slot_of n stripe column) ≡ true }
+    requires live { lost ≡ false → (B.Backplane.view plane.old).live (slot_of n stripe column) ≡ true }
     requires room { 512 * column + 512 ≤ length row.old }
-    ensures column { MatchResult result (λ _. ColumnPut column (if lost then zeros else (view plane.old).block (slot_of n stripe column) stripe) row.old row.new) (λ _. ⊥) }
-    ensures kept { view plane.new ≡ view plane.old }
+    ensures column { MatchResult result (λ _. ColumnPut column (if lost then zeros else (B.Backplane.view plane.old).block (slot_of n stripe column) stripe) row.old row.new) (λ _. ⊥) }
+    ensures kept { B.Backplane.view plane.new ≡ B.Backplane.view plane.old }
 {
     let at = 512 * column as usize;
     read_block(plane, n, stripe, column, lost, &mut row[at..at + 512])?;
@@ -82,14 +82,14 @@ fn read_columns<B: Backplane>(
     lost: &[bool; 16],
     row: &mut [u8],
 ) -> Result<(), BackplaneFault>
-    requires power { (view plane.old).on ≡ true }
-    requires slots { (view plane.old).slots ≡ n }
+    requires power { (B.Backplane.view plane.old).on ≡ true }
+    requires slots { (B.Backplane.view plane.old).slots ≡ n }
     requires few { n ≤ 16 }
-    requires stripe { stripe < (view plane.old).blocks }
-    requires live { (c : ℕ) → c < n → flagged lost.now c ≡ false → (view plane.old).live (slot_of n stripe c) ≡ true }
+    requires stripe { stripe < (B.Backplane.view plane.old).blocks }
+    requires live { (c : ℕ) → c < n → flagged lost.now c ≡ false → (B.Backplane.view plane.old).live (slot_of n stripe c) ≡ true }
     requires room { 512 * n ≤ length row.old }
-    ensures each { MatchResult result (λ _. (c : ℕ) → c < n → column_in row.new c ≡ (if flagged lost.now c then zeros else (view plane.old).block (slot_of n stripe c) stripe)) (λ _. ⊥) }
-    ensures kept { view plane.new ≡ view plane.old }
+    ensures each { MatchResult result (λ _. (c : ℕ) → c < n → column_in row.new c ≡ (if flagged lost.now c then zeros else (B.Backplane.view plane.old).block (slot_of n stripe c) stripe)) (λ _. ⊥) }
+    ensures kept { B.Backplane.view plane.new ≡ B.Backplane.view plane.old }
 {
     for c in 0..n {
         read_column(plane, n, stripe, c, lost[c as usize], row)?;
@@ -105,15 +105,15 @@ fn has_room(bytes: usize, cell: usize) -> bool
 
 // Whether no more columns of a stripe are lost than there are checks.
 fn is_repairable<B: Backplane, C: Code>(plane: &B, n: u8, header: &Header, stripe: u32) -> bool
-    ensures { result ≡ not (nat_lt C.Code.rows (missing n (view plane.now).live (good_of header.now) stripe)) }
+    ensures { result ≡ not (nat_lt C.Code.rows (missing n (B.Backplane.view plane.now).live (good_of header.now) stripe)) }
 {
     !(count_lost(plane, n, header, stripe) as usize > C::check_rows())
 }
 
 // The shape of an array with this code, if the power is on, the sizes are within the limits, and the header fits them.
 fn open_shape<B: Backplane, C: Code>(plane: &B, header: &Header) -> Option<Shape>
-    ensures value { result ≡ open_shape (coding_on C.Code.number C.Code.rows C.Code.check C.Code.solved (view plane.now)) (view plane.now) header.now }
-    ensures fits { IfSome result (λ sh. OpenFits C.Code.rows (view plane.now) header.now sh) }
+    ensures value { result ≡ open_shape (coding_on C.Code.number C.Code.rows C.Code.check C.Code.solved (B.Backplane.view plane.now)) (B.Backplane.view plane.now) header.now }
+    ensures fits { IfSome result (λ sh. OpenFits C.Code.rows (B.Backplane.view plane.now) header.now sh) }
 {
     if !plane.power() {
         return None;
@@ -147,19 +147,19 @@ fn fill_row<B: Backplane, C: Code>(
     row: &mut [u8],
     cell: &mut [u8],
 ) -> Result<(), BackplaneFault>
-    requires power { (view plane.old).on ≡ true }
-    requires slots { (view plane.old).slots ≡ n }
+    requires power { (B.Backplane.view plane.old).on ≡ true }
+    requires slots { (B.Backplane.view plane.old).slots ≡ n }
     requires width { n ≡ k + C.Code.rows }
     requires low { 2 ≤ k }
     requires high { k ≤ 12 }
-    requires stripe { stripe < (view plane.old).blocks }
-    requires cells { header.now.used < (view plane.old).cells }
+    requires stripe { stripe < (B.Backplane.view plane.old).blocks }
+    requires cells { header.now.used < (B.Backplane.view plane.old).cells }
     requires used { header.now.used < 4096 }
-    requires repairable { missing n (view plane.old).live (good_of header.now) stripe ≤ C.Code.rows }
+    requires repairable { missing n (B.Backplane.view plane.old).live (good_of header.now) stripe ≤ C.Code.rows }
     requires room { 512 * n ≤ length row.old }
     requires size { length cell.old ≡ 512 }
-    ensures row { MatchResult result (λ _. HoldsRow (byte_coding k C.Code.number C.Code.rows C.Code.check C.Code.solved) (view plane.old) header.now stripe row.new) (λ _. ⊥) }
-    ensures kept { view plane.new ≡ view plane.old }
+    ensures row { MatchResult result (λ _. HoldsRow (byte_coding k C.Code.number C.Code.rows C.Code.check C.Code.solved) (B.Backplane.view plane.old) header.now stripe row.new) (λ _. ⊥) }
+    ensures kept { B.Backplane.view plane.new ≡ B.Backplane.view plane.old }
 {
     let lost = lost_columns(plane, n, header, stripe);
     read_columns(plane, n, stripe, &lost, row)?;
@@ -176,8 +176,8 @@ fn row_shape<B: Backplane, C: Code>(
     bytes: usize,
     cell: usize,
 ) -> Option<Shape>
-    ensures value { is_some result ≡ has_row (coding_on C.Code.number C.Code.rows C.Code.check C.Code.solved (view plane.now)) (view plane.now) header.now stripe bytes cell }
-    ensures fits { IfSome result (λ sh. OpenFits C.Code.rows (view plane.now) header.now sh × (stripe < (view plane.now).blocks) × (missing sh.slots (view plane.now).live (good_of header.now) stripe ≤ C.Code.rows) × (8192 ≤ bytes) × (cell ≡ 512)) }
+    ensures value { is_some result ≡ has_row (coding_on C.Code.number C.Code.rows C.Code.check C.Code.solved (B.Backplane.view plane.now)) (B.Backplane.view plane.now) header.now stripe bytes cell }
+    ensures fits { IfSome result (λ sh. OpenFits C.Code.rows (B.Backplane.view plane.now) header.now sh × (stripe < (B.Backplane.view plane.now).blocks) × (missing sh.slots (B.Backplane.view plane.now).live (good_of header.now) stripe ≤ C.Code.rows) × (8192 ≤ bytes) × (cell ≡ 512)) }
 {
     let Some(shape) = open_shape::<B, C>(plane, header) else {
         return None;
@@ -200,10 +200,10 @@ pub fn row_of_stripe<B: Backplane, C: Code>(
     row: &mut [u8],
     cell: &mut [u8],
 ) -> Result<bool, BackplaneFault>
-    ensures answer { result ≡ Ok (has_row (coding_on C.Code.number C.Code.rows C.Code.check C.Code.solved (view plane.old)) (view plane.old) header.now stripe (length row.old) (length cell.old)) }
-    ensures row { result ≡ Ok true → HoldsRow (coding_on C.Code.number C.Code.rows C.Code.check C.Code.solved (view plane.old)) (view plane.old) header.now stripe row.new }
+    ensures answer { result ≡ Ok (has_row (coding_on C.Code.number C.Code.rows C.Code.check C.Code.solved (B.Backplane.view plane.old)) (B.Backplane.view plane.old) header.now stripe (length row.old) (length cell.old)) }
+    ensures row { result ≡ Ok true → HoldsRow (coding_on C.Code.number C.Code.rows C.Code.check C.Code.solved (B.Backplane.view plane.old)) (B.Backplane.view plane.old) header.now stripe row.new }
     ensures refused { result ≡ Ok false → row.new ≡ row.old }
-    ensures kept { view plane.new ≡ view plane.old }
+    ensures kept { B.Backplane.view plane.new ≡ B.Backplane.view plane.old }
 {
     let Some(shape) = row_shape::<B, C>(plane, header, stripe, row.len(), cell.len()) else {
         return Ok(false);
@@ -222,14 +222,14 @@ fn settle<B: Backplane, C: Code>(
     row: &mut [u8],
     cell: &mut [u8],
 ) -> Result<(), BackplaneFault>
-    requires power { (view plane.old).on ≡ true }
-    requires cells { used < (view plane.old).cells }
+    requires power { (B.Backplane.view plane.old).on ≡ true }
+    requires cells { used < (B.Backplane.view plane.old).cells }
     requires used { used < 4096 }
     requires few { k ≤ 12 }
     requires room { 512 * (k + C.Code.rows) ≤ length row.old }
     requires size { length cell.old ≡ 512 }
-    ensures each { MatchResult result (λ _. (c : ℕ) → c < k + C.Code.rows → column_in row.new c ≡ (if flagged leave.now c then column_in row.old c else settled_with (byte_coding k C.Code.number C.Code.rows C.Code.check C.Code.solved) (walk (byte_coding k C.Code.number C.Code.rows C.Code.check C.Code.solved) (view plane.old) used).log stripe c (column_in row.old c))) (λ _. ⊥) }
-    ensures kept { view plane.new ≡ view plane.old }
+    ensures each { MatchResult result (λ _. (c : ℕ) → c < k + C.Code.rows → column_in row.new c ≡ (if flagged leave.now c then column_in row.old c else settled_with (byte_coding k C.Code.number C.Code.rows C.Code.check C.Code.solved) (walk (byte_coding k C.Code.number C.Code.rows C.Code.check C.Code.solved) (B.Backplane.view plane.old) used).log stripe c (column_in row.old c))) (λ _. ⊥) }
+    ensures kept { B.Backplane.view plane.new ≡ B.Backplane.view plane.old }
 {
     let last = last_parity::<B, C>(plane, k, used, stripe, cell)?;
     add_pending::<B, C>(plane, k, used, stripe, last, leave, row, cell)?;
@@ -257,14 +257,14 @@ fn settle_only<B: Backplane, C: Code>(
     row: &mut [u8],
     cell: &mut [u8],
 ) -> Result<(), BackplaneFault>
-    requires power { (view plane.old).on ≡ true }
-    requires cells { header.now.used < (view plane.old).cells }
+    requires power { (B.Backplane.view plane.old).on ≡ true }
+    requires cells { header.now.used < (B.Backplane.view plane.old).cells }
     requires used { header.now.used < 4096 }
     requires few { k ≤ 12 }
     requires room { 8192 ≤ length row.old }
     requires size { length cell.old ≡ 512 }
-    ensures each { MatchResult result (λ _. Settled (byte_coding k C.Code.number C.Code.rows C.Code.check C.Code.solved) (view plane.old) header.now stripe column row.old row.new) (λ _. ⊥) }
-    ensures kept { view plane.new ≡ view plane.old }
+    ensures each { MatchResult result (λ _. Settled (byte_coding k C.Code.number C.Code.rows C.Code.check C.Code.solved) (B.Backplane.view plane.old) header.now stripe column row.old row.new) (λ _. ⊥) }
+    ensures kept { B.Backplane.view plane.new ≡ B.Backplane.view plane.old }
 {
     let leave = all_but(column);
     settle::<B, C>(plane, k, header.used, stripe, &leave, row, cell)?;
@@ -278,8 +278,8 @@ fn debt_shape<B: Backplane, C: Code>(
     bytes: usize,
     cell: usize,
 ) -> Option<Shape>
-    ensures value { is_some result ≡ has_debt (coding_on C.Code.number C.Code.rows C.Code.check C.Code.solved (view plane.now)) (view plane.now) header.now bytes cell }
-    ensures fits { IfSome result (λ sh. OpenFits C.Code.rows (view plane.now) header.now sh × (8192 ≤ bytes) × (cell ≡ 512)) }
+    ensures value { is_some result ≡ has_debt (coding_on C.Code.number C.Code.rows C.Code.check C.Code.solved (B.Backplane.view plane.now)) (B.Backplane.view plane.now) header.now bytes cell }
+    ensures fits { IfSome result (λ sh. OpenFits C.Code.rows (B.Backplane.view plane.now) header.now sh × (8192 ≤ bytes) × (cell ≡ 512)) }
 {
     if !has_room(bytes, cell) {
         return None;
@@ -297,10 +297,10 @@ pub fn settle_column<B: Backplane, C: Code>(
     row: &mut [u8],
     cell: &mut [u8],
 ) -> Result<bool, BackplaneFault>
-    ensures answer { result ≡ Ok (has_debt (coding_on C.Code.number C.Code.rows C.Code.check C.Code.solved (view plane.old)) (view plane.old) header.now (length row.old) (length cell.old)) }
-    ensures settled { result ≡ Ok true → Settled (coding_on C.Code.number C.Code.rows C.Code.check C.Code.solved (view plane.old)) (view plane.old) header.now stripe column row.old row.new }
+    ensures answer { result ≡ Ok (has_debt (coding_on C.Code.number C.Code.rows C.Code.check C.Code.solved (B.Backplane.view plane.old)) (B.Backplane.view plane.old) header.now (length row.old) (length cell.old)) }
+    ensures settled { result ≡ Ok true → Settled (coding_on C.Code.number C.Code.rows C.Code.check C.Code.solved (B.Backplane.view plane.old)) (B.Backplane.view plane.old) header.now stripe column row.old row.new }
     ensures refused { result ≡ Ok false → row.new ≡ row.old }
-    ensures kept { view plane.new ≡ view plane.old }
+    ensures kept { B.Backplane.view plane.new ≡ B.Backplane.view plane.old }
 {
     let Some(shape) = debt_shape::<B, C>(plane, header, row.len(), cell.len()) else {
         return Ok(false);

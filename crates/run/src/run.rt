@@ -39,7 +39,7 @@ pub fn run<B: Backplane, C: Code>(
 
 // What every backplane keeps, for the proof alone.
 fn keeps_sound<B: Backplane>(backplane: &B)
-    ensures { Sound (view backplane.now) }
+    ensures { Sound (B.Backplane.view backplane.now) }
 {
     let _slots = backplane.slots();
 }

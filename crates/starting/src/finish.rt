@@ -116,13 +116,13 @@ fn finish_column<B: Backplane>(
     from: u32,
     cell: &mut [u8],
 ) -> Result<(), ArrayFault>
-    requires plane_value { (view plane.old).on ≡ true }
-    requires plane_value_2 { (view plane.old).slots ≡ n }
+    requires plane_value { (B.Backplane.view plane.old).on ≡ true }
+    requires plane_value_2 { (B.Backplane.view plane.old).slots ≡ n }
     requires n_nonzero { 0 < n }
-    requires stripe_bound { stripe < (view plane.old).blocks }
-    requires from_bound { from < (view plane.old).cells }
+    requires stripe_bound { stripe < (B.Backplane.view plane.old).blocks }
+    requires from_bound { from < (B.Backplane.view plane.old).cells }
     requires cell_len { length cell.old ≡ 512 }
-    ensures { Performed (to_good n (view plane.old) header.now stripe column ((view plane.old).cell from)) (view plane.old) result (view plane.new) }
+    ensures { Performed (to_good n (B.Backplane.view plane.old) header.now stripe column ((B.Backplane.view plane.old).cell from)) (B.Backplane.view plane.old) result (B.Backplane.view plane.new) }
 {
     get_cell(plane, from, cell);
     let (slot, _) = place(n, stripe, column);
@@ -137,12 +137,12 @@ fn store_if<B: Backplane>(
     block: u32,
     bytes: &[u8],
 ) -> Result<(), ArrayFault>
-    requires plane_value { (view plane.old).on ≡ true }
-    requires slot_bound { slot < (view plane.old).slots }
-    requires slot_value { good ≡ true → (view plane.old).live slot ≡ true }
-    requires block_bound { block < (view plane.old).blocks }
+    requires plane_value { (B.Backplane.view plane.old).on ≡ true }
+    requires slot_bound { slot < (B.Backplane.view plane.old).slots }
+    requires slot_value { good ≡ true → (B.Backplane.view plane.old).live slot ≡ true }
+    requires block_bound { block < (B.Backplane.view plane.old).blocks }
     requires bytes_len { length bytes.now ≡ 512 }
-    ensures { Performed (if good then to_block slot block bytes.now ∷ [] else []) (view plane.old) result (view plane.new) }
+    ensures { Performed (if good then to_block slot block bytes.now ∷ [] else []) (B.Backplane.view plane.old) result (B.Backplane.view plane.new) }
 {
     if good {
         put_block(plane, slot, block, bytes)?;
@@ -152,8 +152,8 @@ fn store_if<B: Backplane>(
 
 // Whether a slot holds its block of a stripe: its disk is live, and the stripe is below its good stripes.
 fn is_good<B: Backplane>(plane: &B, header: &Header, stripe: u32, slot: u32) -> bool
-    ensures value { result ≡ ((view plane.now).live slot && nat_lt stripe (good_of header.now slot)) }
-    ensures live { result ≡ true → (view plane.now).live slot ≡ true }
+    ensures value { result ≡ ((B.Backplane.view plane.now).live slot && nat_lt stripe (good_of header.now slot)) }
+    ensures live { result ≡ true → (B.Backplane.view plane.now).live slot ≡ true }
 {
     let live = plane.live(slot);
     live & (stripe < good_stripes(header, slot))

@@ -16,17 +16,17 @@ pub(crate) fn put_block<B: Backplane>(
     block: u32,
     bytes: &[u8],
 ) -> Result<(), StripeFault>
-    requires { fault_of (to_block slot block bytes.now) (view backplane.old) ≡ None }
-    ensures { MatchResult result (λ _. view backplane.new ≡ stored (to_block slot block bytes.now) (view backplane.old)) (λ f. (f ≡ AtBlock (Cut (OfBlock slot block))) × CutBy Sector (to_block slot block bytes.now) (view backplane.old) (view backplane.new)) }
+    requires { fault_of (to_block slot block bytes.now) (B.Backplane.view backplane.old) ≡ None }
+    ensures { MatchResult result (λ _. B.Backplane.view backplane.new ≡ stored (to_block slot block bytes.now) (B.Backplane.view backplane.old)) (λ f. (f ≡ AtBlock (Cut (OfBlock slot block))) × CutBy Sector (to_block slot block bytes.now) (B.Backplane.view backplane.old) (B.Backplane.view backplane.new)) }
 {
     backplane.store_block(slot, block, bytes)?;
     Ok(())
 }
 
 pub(crate) fn get_cell<B: Backplane>(backplane: &mut B, at: u32, into: &mut [u8])
-    requires { fault_of (to_cell at into.old) (view backplane.old) ≡ None }
-    ensures got { into.new ≡ (view backplane.old).cell at }
-    ensures kept { view backplane.new ≡ view backplane.old }
+    requires { fault_of (to_cell at into.old) (B.Backplane.view backplane.old) ≡ None }
+    ensures got { into.new ≡ (B.Backplane.view backplane.old).cell at }
+    ensures kept { B.Backplane.view backplane.new ≡ B.Backplane.view backplane.old }
 {
     match backplane.read_cell(at, into) {
         Ok(()) => {}

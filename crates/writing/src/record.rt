@@ -15,13 +15,13 @@ fn store_delta<B: Backplane>(
     delta: &[u8],
     image: &[u8],
 ) -> Result<(), ArrayFault>
-    requires backplane_value { (view backplane.old).on ≡ true }
-    requires used_bound { used + 3 < (view backplane.old).cells }
+    requires backplane_value { (B.Backplane.view backplane.old).on ≡ true }
+    requires used_bound { used + 3 < (B.Backplane.view backplane.old).cells }
     requires used_bound_2 { used < 4096 }
     requires head_len { length head.now ≡ 512 }
     requires delta_len { length delta.now ≡ 512 }
     requires image_len { length image.now ≡ 512 }
-    ensures { Performed (to_cell (used + 1) head.now ∷ (to_cell (used + 2) delta.now ∷ (to_cell (used + 3) image.now ∷ []))) (view backplane.old) result (view backplane.new) }
+    ensures { Performed (to_cell (used + 1) head.now ∷ (to_cell (used + 2) delta.now ∷ (to_cell (used + 3) image.now ∷ []))) (B.Backplane.view backplane.old) result (B.Backplane.view backplane.new) }
 {
     put_cell(backplane, used + 1, head)?;
     put_cell(backplane, used + 2, delta)?;
@@ -37,12 +37,12 @@ fn finish_write<B: Backplane>(
     block: u32,
     image: &[u8],
 ) -> Result<(), ArrayFault>
-    requires backplane_value { (view backplane.old).on ≡ true }
-    requires slot_bound { slot < (view backplane.old).slots }
-    requires slot_value { good ≡ true → (view backplane.old).live slot ≡ true }
-    requires block_bound { block < (view backplane.old).blocks }
+    requires backplane_value { (B.Backplane.view backplane.old).on ≡ true }
+    requires slot_bound { slot < (B.Backplane.view backplane.old).slots }
+    requires slot_value { good ≡ true → (B.Backplane.view backplane.old).live slot ≡ true }
+    requires block_bound { block < (B.Backplane.view backplane.old).blocks }
     requires image_len { length image.now ≡ 512 }
-    ensures { Performed (if good then to_block slot block image.now ∷ [] else []) (view backplane.old) result (view backplane.new) }
+    ensures { Performed (if good then to_block slot block image.now ∷ [] else []) (B.Backplane.view backplane.old) result (B.Backplane.view backplane.new) }
 {
     if good {
         put_block(backplane, slot, block, image)?;
@@ -61,17 +61,17 @@ pub(crate) fn store_write<B: Backplane>(
     slot: u32,
     block: u32,
 ) -> Result<(), ArrayFault>
-    requires backplane_value { (view backplane.old).on ≡ true }
-    requires used_bound { used + 3 < (view backplane.old).cells }
+    requires backplane_value { (B.Backplane.view backplane.old).on ≡ true }
+    requires used_bound { used + 3 < (B.Backplane.view backplane.old).cells }
     requires used_bound_2 { used < 4096 }
-    requires slot_bound { slot < (view backplane.old).slots }
-    requires slot_value { good ≡ true → (view backplane.old).live slot ≡ true }
-    requires block_bound { block < (view backplane.old).blocks }
+    requires slot_bound { slot < (B.Backplane.view backplane.old).slots }
+    requires slot_value { good ≡ true → (B.Backplane.view backplane.old).live slot ≡ true }
+    requires block_bound { block < (B.Backplane.view backplane.old).blocks }
     requires head_len { length head.now ≡ 512 }
     requires delta_len { length delta.now ≡ 512 }
     requires image_len { length image.now ≡ 512 }
     requires cell_len { length cell.now ≡ 512 }
-    ensures { PerformedIn ((to_cell (used + 1) head.now ∷ (to_cell (used + 2) delta.now ∷ (to_cell (used + 3) image.now ∷ []))) ∷ ((to_cell 0 cell.now ∷ []) ∷ ((if good then to_block slot block image.now ∷ [] else []) ∷ []))) (view backplane.old) result (view backplane.new) }
+    ensures { PerformedIn ((to_cell (used + 1) head.now ∷ (to_cell (used + 2) delta.now ∷ (to_cell (used + 3) image.now ∷ []))) ∷ ((to_cell 0 cell.now ∷ []) ∷ ((if good then to_block slot block image.now ∷ [] else []) ∷ []))) (B.Backplane.view backplane.old) result (B.Backplane.view backplane.new) }
 {
     store_delta(backplane, used, head, delta, image)?;
     put_cell(backplane, 0, cell)?;

@@ -26,16 +26,16 @@ pub(crate) const ROW: usize = 8192;
 
 // The columns of a started array, one for each slot.
 pub(crate) fn columns<B: Backplane, C: Code>(plane: &B) -> u8
-    requires { Sized C.Code.rows (view plane.now) }
-    ensures { result ≡ (view plane.now).slots }
+    requires { Sized C.Code.rows (B.Backplane.view plane.now) }
+    ensures { result ≡ (B.Backplane.view plane.now).slots }
 {
     plane.slots() as u8
 }
 
 // Those that hold data: all but the checks.
 pub(crate) fn data_columns<B: Backplane, C: Code>(plane: &B) -> u8
-    requires { Sized C.Code.rows (view plane.now) }
-    ensures { result ≡ (view plane.now).slots - C.Code.rows }
+    requires { Sized C.Code.rows (B.Backplane.view plane.now) }
+    ensures { result ≡ (B.Backplane.view plane.now).slots - C.Code.rows }
 {
     (plane.slots() - C::check_rows() as u32) as u8
 }
@@ -49,8 +49,8 @@ pub(crate) fn is_good<B: Backplane>(
     column: u8,
 ) -> bool
     requires { column < n }
-    ensures value { result ≡ good_at n (view plane.now).live (good_of header.now) stripe column }
-    ensures live { result ≡ true → (view plane.now).live (slot_of n stripe column) ≡ true }
+    ensures value { result ≡ good_at n (B.Backplane.view plane.now).live (good_of header.now) stripe column }
+    ensures live { result ≡ true → (B.Backplane.view plane.now).live (slot_of n stripe column) ≡ true }
 {
     !is_lost(plane, n, header, stripe, column)
 }
@@ -64,14 +64,14 @@ pub(crate) fn load_row<B: Backplane, C: Code>(
     row: &mut [u8],
     cell: &mut [u8],
 )
-    requires opened { is_open (coding_on B.Backplane C.Code (view plane.old)) (view plane.old) header.now ≡ true }
-    requires columns { n ≡ width (coding_on B.Backplane C.Code (view plane.old)) }
-    requires stripe { stripe < (view plane.old).blocks }
-    requires repairable { missing n (view plane.old).live (good_of header.now) stripe ≤ C.Code.rows }
+    requires opened { is_open (coding_on B.Backplane C.Code (B.Backplane.view plane.old)) (B.Backplane.view plane.old) header.now ≡ true }
+    requires columns { n ≡ width (coding_on B.Backplane C.Code (B.Backplane.view plane.old)) }
+    requires stripe { stripe < (B.Backplane.view plane.old).blocks }
+    requires repairable { missing n (B.Backplane.view plane.old).live (good_of header.now) stripe ≤ C.Code.rows }
     requires room { length row.old ≡ 8192 }
     requires size { length cell.old ≡ 512 }
-    ensures holds { HoldsRow (coding_on B.Backplane C.Code (view plane.old)) (view plane.old) header.now stripe row.new }
-    ensures kept { view plane.new ≡ view plane.old }
+    ensures holds { HoldsRow (coding_on B.Backplane C.Code (B.Backplane.view plane.old)) (B.Backplane.view plane.old) header.now stripe row.new }
+    ensures kept { B.Backplane.view plane.new ≡ B.Backplane.view plane.old }
 {
     match row_of_stripe::<B, C>(plane, header, stripe, row, cell) {
         Ok(true) => {}

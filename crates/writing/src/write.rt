@@ -105,12 +105,12 @@ fn write_open<B: Backplane, C: Code>(
 
 // The stripe and the column of a block that there is, with n columns.
 fn locate_block<B: Backplane, C: Code>(plane: &B, n: u8, block: u32) -> (u32, u8)
-    requires sized { Sized C.Code.rows (view plane.now) }
-    requires slots { n ≡ (view plane.now).slots }
-    requires block { block < (view plane.now).blocks * ((view plane.now).slots - C.Code.rows) }
-    ensures stripe { result.0 ≡ stripe_of ((view plane.now).slots - C.Code.rows) block }
-    ensures column { result.1 ≡ column_of ((view plane.now).slots - C.Code.rows) block }
-    ensures within { result.0 < (view plane.now).blocks }
+    requires sized { Sized C.Code.rows (B.Backplane.view plane.now) }
+    requires slots { n ≡ (B.Backplane.view plane.now).slots }
+    requires block { block < (B.Backplane.view plane.now).blocks * ((B.Backplane.view plane.now).slots - C.Code.rows) }
+    ensures stripe { result.0 ≡ stripe_of ((B.Backplane.view plane.now).slots - C.Code.rows) block }
+    ensures column { result.1 ≡ column_of ((B.Backplane.view plane.now).slots - C.Code.rows) block }
+    ensures within { result.0 < (B.Backplane.view plane.now).blocks }
     ensures below { result.1 < n }
 {
     locate(data_columns::<B, C>(plane), block)
@@ -165,12 +165,12 @@ fn judge_write<B: Backplane, C: Code>(
     map: &mut [u8],
     cell: &mut [u8],
 ) -> Result<(), ArrayFault>
-    requires ready { Ready C.Code.rows (view plane.old) header.now }
-    requires slots { n ≡ (view plane.old).slots }
+    requires ready { Ready C.Code.rows (B.Backplane.view plane.old) header.now }
+    requires slots { n ≡ (B.Backplane.view plane.old).slots }
     requires map { length map.old ≡ 8192 }
     requires cell { length cell.old ≡ 512 }
-    ensures judged { WriteJudged n (coding_on B.Backplane C.Code (view plane.old)) (view plane.old) header.now stripe result }
-    ensures kept { view plane.new ≡ view plane.old }
+    ensures judged { WriteJudged n (coding_on B.Backplane C.Code (B.Backplane.view plane.old)) (B.Backplane.view plane.old) header.now stripe result }
+    ensures kept { B.Backplane.view plane.new ≡ B.Backplane.view plane.old }
 {
     let lost = count_lost(plane, n, header, stripe);
     if lost as usize > C::check_rows() {
@@ -194,12 +194,12 @@ fn count_with<B: Backplane, C: Code>(
     map: &mut [u8],
     cell: &mut [u8],
 ) -> u32
-    requires ready { Ready C.Code.rows (view plane.old) header.now }
-    requires columns { k ≡ (view plane.old).slots - C.Code.rows }
+    requires ready { Ready C.Code.rows (B.Backplane.view plane.old) header.now }
+    requires columns { k ≡ (B.Backplane.view plane.old).slots - C.Code.rows }
     requires map { length map.old ≡ 8192 }
     requires cell { length cell.old ≡ 512 }
-    ensures value { (c : ℕ) (x y : List ℕ) → result ≡ owed (coding_on B.Backplane C.Code (view plane.old)) (view plane.old).blocks (write stripe c x y ∷ log_of (coding_on B.Backplane C.Code (view plane.old)) (view plane.old) header.now) }
-    ensures kept { view plane.new ≡ view plane.old }
+    ensures value { (c : ℕ) (x y : List ℕ) → result ≡ owed (coding_on B.Backplane C.Code (B.Backplane.view plane.old)) (B.Backplane.view plane.old).blocks (write stripe c x y ∷ log_of (coding_on B.Backplane C.Code (B.Backplane.view plane.old)) (B.Backplane.view plane.old) header.now) }
+    ensures kept { B.Backplane.view plane.new ≡ B.Backplane.view plane.old }
 {
     match count_owing_with::<B, C>(plane, k, header.used, stripe, map, cell) {
         Ok(stripes) => stripes,
@@ -226,18 +226,18 @@ fn find_delta<B: Backplane, C: Code>(
     delta: &mut [u8],
     cell: &mut [u8],
 )
-    requires opened { is_open (coding_on B.Backplane C.Code (view plane.old)) (view plane.old) header.now ≡ true }
-    requires columns { n ≡ width (coding_on B.Backplane C.Code (view plane.old)) }
+    requires opened { is_open (coding_on B.Backplane C.Code (B.Backplane.view plane.old)) (B.Backplane.view plane.old) header.now ≡ true }
+    requires columns { n ≡ width (coding_on B.Backplane C.Code (B.Backplane.view plane.old)) }
     requires few { n ≤ 16 }
-    requires stripe { stripe < (view plane.old).blocks }
+    requires stripe { stripe < (B.Backplane.view plane.old).blocks }
     requires column { column < n }
-    requires repairable { missing n (view plane.old).live (good_of header.now) stripe ≤ C.Code.rows }
+    requires repairable { missing n (B.Backplane.view plane.old).live (good_of header.now) stripe ≤ C.Code.rows }
     requires size { length bytes.now ≡ 512 }
     requires room { length row.old ≡ 8192 }
     requires delta { length delta.old ≡ 512 }
     requires cell { length cell.old ≡ 512 }
-    ensures found { delta.new ≡ sum_of (row_of (coding_on B.Backplane C.Code (view plane.old)) (view plane.old) header.now stripe column) bytes.now }
-    ensures kept { view plane.new ≡ view plane.old }
+    ensures found { delta.new ≡ sum_of (row_of (coding_on B.Backplane C.Code (B.Backplane.view plane.old)) (B.Backplane.view plane.old) header.now stripe column) bytes.now }
+    ensures kept { B.Backplane.view plane.new ≡ B.Backplane.view plane.old }
 {
     load_row::<B, C>(plane, n, header, stripe, row, cell);
     sum_column(row, column, bytes, delta);

@@ -16,7 +16,7 @@ loop-at-init g c =
     (refl, c.requires.plane_value, omega arith, omega arith, ([], stands-first K v c.args.used, λ t h. unmarked m (length m) t c.requires.map_value))
 
 pub head_at-requires : goal.head_at-requires
-head_at-requires g c = (c.loop-at.invariant.1, omega arith)
+head_at-requires g c = record { plane_value = c.loop-at.invariant.1; at_le_used = omega arith }
 
 pub loop-at-preserved : goal.loop-at-preserved
 loop-at-preserved g c =

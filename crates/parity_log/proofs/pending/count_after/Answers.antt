@@ -19,7 +19,7 @@ loop-at-init g c =
     (refl, c.requires.plane_value, re.low, re.high, omega arith, (re, [], re.there, refl))
 
 pub head_at-requires : goal.head_at-requires
-head_at-requires g c = (c.loop-at.invariant.1, omega arith)
+head_at-requires g c = record { plane_value = c.loop-at.invariant.1; at_le_used = omega arith }
 
 pub loop-at-preserved : goal.loop-at-preserved
 loop-at-preserved g c =
