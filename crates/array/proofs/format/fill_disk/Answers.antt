@@ -16,7 +16,7 @@ returns-in_err-fill_block g c =
     let left = c.args.blocks - (b + 1) in
     let q = v c.fill_block.new.backplane in
     let f = c.in_err-fill_block.field-0.0 in
-    let k = err_from_is_err_and c.from-residual.result c.from-residual.ensures.1 in
+    let k = err_from_is_err_and c.from_residual.result c.from_residual.ensures.1 in
     let e : c.args.blocks - b ≡ suc left = omega arith in
     subst⁻¹ (λ (r : Result (Unit {0}) ArrayFault). Performed (fill_disk x d c.args.blocks 0) (v c.args.backplane.now) r q) (k.1 ∙ ap Err k.2)
     (c.loop-b.invariant.1 q (Err f)

@@ -17,7 +17,7 @@ returns-in_err-fill_disk g c =
     let p = v c.loop-d.backplane in
     let q = v c.fill_disk.new.backplane in
     let f = c.in_err-fill_disk.field-0.0 in
-    let k = err_from_is_err_and c.from-residual.result c.from-residual.ensures.1 in
+    let k = err_from_is_err_and c.from_residual.result c.from_residual.ensures.1 in
     let e : c.args.slots - d ≡ suc left = omega arith in
     record {
       stores = subst⁻¹ (λ (r : Result (Unit {0}) ArrayFault). Performed (fill_disks x s c.args.slots 0) (v c.args.backplane.now) r q) (k.1 ∙ ap Err k.2)

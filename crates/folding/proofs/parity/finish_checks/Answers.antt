@@ -24,7 +24,7 @@ returns-in_err-finish_check g c =
     let p = v c.loop-r.backplane in
     let q = v c.finish_check.new.backplane in
     let f = c.in_err-finish_check.field-0.0 in
-    let b = err_from_is_err_and c.from-residual.result c.from-residual.ensures.1 in
+    let b = err_from_is_err_and c.from_residual.result c.from_residual.ensures.1 in
     let e : m - r ≡ suc left = omega arith in
     let one : List (Store (List ℕ)) = cond (not (flagged lost (k + r))) (to_block (slot_of n s (k + r)) s (column_in row (k + r)) ∷ []) [] in
     subst⁻¹ (λ (x : Result (Unit {0}) ArrayFault). Performed (row_blocks n k s lost row m 0) (v c.args.backplane.now) x q) (b.1 ∙ ap Err b.2)

@@ -22,7 +22,7 @@ returns-in_err-store_check g c =
     let p = v c.loop-r.backplane in
     let q = v c.store_check.new.backplane in
     let f = c.in_err-store_check.field-0.0 in
-    let b = err_from_is_err_and c.from-residual.result c.from-residual.ensures.1 in
+    let b = err_from_is_err_and c.from_residual.result c.from_residual.ensures.1 in
     let e : m - r ≡ suc left = omega arith in
     record {
       stores = subst⁻¹ (λ (x : Result (Unit {0}) ArrayFault). Performed (row_cells k row at m 0) (v c.args.backplane.now) x q) (b.1 ∙ ap Err b.2)

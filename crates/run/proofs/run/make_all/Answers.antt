@@ -49,7 +49,7 @@ returns-in_err-make_next g c =
     let inv = c.loop-call.invariant in
     let i = c.loop-call.call-index in
     let call = get_or c.args.calls.now i none in
-    let p = err_from_is_err_and c.from-residual.result c.from-residual.ensures.1 in
+    let p = err_from_is_err_and c.from_residual.result c.from_residual.ensures.1 in
     record {
       does = rw p.1 (record {
         many = i + 1;

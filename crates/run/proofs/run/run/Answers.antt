@@ -27,7 +27,7 @@ pub returns-in_err-make_all : goal.returns-in_err-make_all
 returns-in_err-make_all g c =
     let w = c.args.work.now in
     let wiped = c.in_ok-format.ensures.area in
-    let p = err_from_is_err_and c.from-residual-in_err-make_all.result c.from-residual-in_err-make_all.ensures.1 in
+    let p = err_from_is_err_and c.from_residual-in_err-make_all.result c.from_residual-in_err-make_all.ensures.1 in
     record {
       does = rw (p.1, p.2)
           (kept-some g.B.Backplane g.C.Code (laws g) c.args.array.now c.format.new.self c.make_all.new.array (length c.format.new.work) (length w)
