@@ -1,6 +1,6 @@
 -- What a backplane holds. `B` is what stands in one block or one cell: in a contract its bytes.
 use Rattle.std.specs.Prelude.{◌≡◌, ℕ, ◌<◌, ◌≤◌, Bool, true, false, cond, ◌&&◌, ◌⊎◌, List, length, ◌==◌, nat_lt}
-use Rattle.std.specs.List.{AllByRecursion as All}
+use Rattle.std.specs.List.{AllByRecursion}
 
 pub record Plane (B : Type 0) : Type 0 where
   -- how many slots there are, blocks on each disk, and log cells
@@ -17,7 +17,7 @@ pub record Plane (B : Type 0) : Type 0 where
 
 -- 512 bytes
 abbrev pub Sector : List ℕ → Type 0
-Sector xs = (length xs ≡ 512) × All (λ x. x < 256) xs
+Sector xs = (length xs ≡ 512) × AllByRecursion (λ x. x < 256) xs
 
 -- a store: what one block or one cell is to hold
 pub data Store (B : Type 0) : Type 0 where

@@ -1,7 +1,7 @@
 -- A backplane in a row of bytes: what a store, a pull and a fit change of it.
 use Rattle.std.proofs.Common.{◌≡◌, ℕ, ◌+◌, ◌*◌, ◌/◌, ◌%◌, ◌<◌, ◌≤◌, Bool, true, false, cond, ◌&&◌, eqb, ltb, ◌⊎◌, List, [], length, get_or, set, replicate, sym, refl, ap, ◌∙◌, ap₂, inl, inr, mul-le-mul_right, add-mul, arith}
 use lib.Arith.{digits_lt, digits_div, digits_mod}
-use Rattle.std.specs.List.{AllByRecursion as All}
+use Rattle.std.specs.List.{AllByRecursion}
 use Rattle.std.proofs.lemmas.List.{get_or-set_same, get_or-set_other, length-replicate}
 use Rattle.std.proofs.lemmas.Bool.{cases_order, cases_Bool, eq-eqb, lt-ltb, ltb-true, eqb-true, eqb-false, and_parts, and_from, and_left, le-ltb, cond-true, cond-false, both_ways, false≢true}
 use Rattle.backplane.specs.Plane.{Plane, to_block, to_cell, stored, fitted}
@@ -66,7 +66,7 @@ module _ (bytes : List ℕ) (n s c : ℕ) (on : Bool) (live : List Bool) (fit : 
         (λ u y. part-elsewhere 512 bytes x (cell_at n s e) (cell_at n s i) long (omega arith) (away (n * s + i) (n * s + e) (λ q. eqb-false i e u (omega arith)))) in
         λ k. record { slots = n; blocks = s; cells = c; on = on; live = alive n live; block = λ i j. blk i j k; cell = λ i. cel i k }
 
-  pub sound-laid : All (λ x. x < 256) bytes → Sound (is_laid_out bytes n s c on live)
+  pub sound-laid : AllByRecursion (λ x. x < 256) bytes → Sound (is_laid_out bytes n s c on live)
   sound-laid low = record {
     blocks = λ d b h k l.
         let i : d * s + b < n * s = digits_lt h k in

@@ -1,6 +1,6 @@
 -- A part of a row of bytes, after another part was written.
 use Rattle.std.proofs.Common.{◌≡◌, ℕ, zero, suc, ◌+◌, ◌-◌, ◌*◌, ◌<◌, ◌≤◌, ◌⊎◌, List, [], ◌++◌, length, take, drop, replicate, sym, refl, ap, ◌∙◌, inl, inr, arith}
-use Rattle.std.specs.List.{AllByRecursion as All}
+use Rattle.std.specs.List.{AllByRecursion}
 use Rattle.std.proofs.lemmas.List.{take_at, drop_at, length-take, length-drop, length-append, length-replicate, length-take-le, drop-take, drop-drop, take-append-le, drop-append-le, take-replicate, drop-replicate}
 use Rattle.std.proofs.lemmas.Slice.{drop-put_mid, take-put_mid_below}
 use Rattle.std.proofs.ByRecursion.{All-take, All-drop}
@@ -44,12 +44,12 @@ length-with = long 512
 pub length_part : (bytes : List ℕ) (at : ℕ) → at + 512 ≤ length bytes → length (part bytes at) ≡ 512
 length_part bytes at h = simp (length-take, length-drop) (omega arith)
 
-pub low_part : (bytes : List ℕ) (at : ℕ) → All (λ x. x < 256) bytes → All (λ x. x < 256) (part bytes at)
+pub low_part : (bytes : List ℕ) (at : ℕ) → AllByRecursion (λ x. x < 256) bytes → AllByRecursion (λ x. x < 256) (part bytes at)
 low_part bytes at h = All-take (λ x. x < 256) 512 (drop at bytes) (All-drop (λ x. x < 256) at bytes h)
 
-pub low-filled : (w v : ℕ) → v < 256 → All (λ x. x < 256) (replicate w v)
+pub low-filled : (w v : ℕ) → v < 256 → AllByRecursion (λ x. x < 256) (replicate w v)
 low-filled w v h = low w
   where
-    low : (n : ℕ) → All (λ x. x < 256) (replicate n v)
+    low : (n : ℕ) → AllByRecursion (λ x. x < 256) (replicate n v)
     low zero = tt
     low (suc n) = (h, low n)

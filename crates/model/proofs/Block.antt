@@ -4,7 +4,7 @@ use mathlib.Core.HLevel.{Σ_prop_path}
 use lib.Dec.{T_prop}
 use lib.ListN.{length-replicate}
 use lib.Bits.{bit_xor, xor_comm, xor_assoc, xor_self, xor_zero_l, xor_lt}
-use Rattle.std.specs.List.{range_with_len, AllByRecursion as All}
+use Rattle.std.specs.List.{range_with_len, AllByRecursion}
 use Rattle.std.proofs.lemmas.List.FromFn.{get_or-map-range_with_len, fill_by_all, length-map-range_with_len}
 use Rattle.std.proofs.lemmas.Bool.{and_parts, ltb-true, eqb-true, eq-eqb, lt-ltb, and_from, true≢false}
 use Rattle.backplane.specs.Plane.{Sector}
@@ -39,11 +39,11 @@ pub low-from : (xs : List ℕ) → Low xs → all_low xs ≡ true
 low-from [] h = refl
 low-from (x ∷ xs) h = and_from (ltb x 256) (all_low xs) (lt-ltb x 256 (h 0)) (low-from xs (λ i. h (suc i)))
 
-low-all : (xs : List ℕ) → All (λ x. x < 256) xs → all_low xs ≡ true
+low-all : (xs : List ℕ) → AllByRecursion (λ x. x < 256) xs → all_low xs ≡ true
 low-all [] h = refl
 low-all (x ∷ xs) h = and_from (ltb x 256) (all_low xs) (lt-ltb x 256 h.0) (low-all xs h.1)
 
-all-low : (xs : List ℕ) → all_low xs ≡ true → All (λ x. x < 256) xs
+all-low : (xs : List ℕ) → all_low xs ≡ true → AllByRecursion (λ x. x < 256) xs
 all-low [] h = tt
 all-low (x ∷ xs) h = let z = and_parts (ltb x 256) (all_low xs) h in (ltb-true x 256 z.0, all-low xs z.1)
 

@@ -1,6 +1,6 @@
 -- A format that is done leaves an array just formatted.
 use Rattle.std.proofs.Common.{◌≡◌, ℕ, zero, suc, ◌+◌, ◌-◌, ◌*◌, ◌<◌, ◌≤◌, Bool, true, false, cond, not, ◌&&◌, eqb, ltb, ◌⊎◌, List, [], ◌∷◌, ◌++◌, map, length, replicate, Some, None, Option, sym, refl, ap, ◌∙◌, subst, ap₂, inl, inr, arith, length-append}
-use Rattle.std.specs.List.{range_with_len, flat_map, AllByRecursion as All}
+use Rattle.std.specs.List.{range_with_len, flat_map, AllByRecursion}
 use Rattle.std.proofs.lemmas.List.FromFn.{length-map-range_with_len}
 use Rattle.std.proofs.lemmas.Bool.{eqb-true, eqb-false, eq-eqb, cases_eq, true≢false, ltb-true, ltb-false, lt-ltb, not-true, not-false}
 use Rattle.backplane.specs.Plane.{Plane, Sector, Store, to_block, to_cell, stored, switched, put as put_at}
@@ -23,15 +23,15 @@ use Rattle.model.proofs.Counts.{count_none}
 use Rattle.model.proofs.Block.{none, sector-of}
 
 -- lists of bytes
-all_app : (xs ys : List ℕ) → All (λ x. x < 256) xs → All (λ x. x < 256) ys → All (λ x. x < 256) (xs ++ ys)
+all_app : (xs ys : List ℕ) → AllByRecursion (λ x. x < 256) xs → AllByRecursion (λ x. x < 256) ys → AllByRecursion (λ x. x < 256) (xs ++ ys)
 all_app [] ys a b = b
 all_app (x ∷ xs) ys a b = (a.0, all_app xs ys a.1 b)
 
-all-four : (xs : List ℕ) → All (λ x. x < 256) (flat_map le4 xs)
+all-four : (xs : List ℕ) → AllByRecursion (λ x. x < 256) (flat_map le4 xs)
 all-four [] = tt
 all-four (x ∷ xs) = all_app (le4 x) (flat_map le4 xs) (omega arith, (omega arith, (omega arith, (omega arith, tt)))) (all-four xs)
 
-all-zeros : (n : ℕ) → All (λ x. x < 256) (replicate n 0)
+all-zeros : (n : ℕ) → AllByRecursion (λ x. x < 256) (replicate n 0)
 all-zeros zero = tt
 all-zeros (suc n) = (omega arith, all-zeros n)
 
@@ -39,11 +39,11 @@ length-four : (xs : List ℕ) → length (flat_map le4 xs) ≡ 4 * length xs
 length-four [] = refl
 length-four (x ∷ xs) = rw (length-four xs) (omega arith)
 
-fours : (x y z : ℕ) → All (λ x. x < 256) (le4 x ++ (le4 y ++ le4 z))
+fours : (x y z : ℕ) → AllByRecursion (λ x. x < 256) (le4 x ++ (le4 y ++ le4 z))
 fours x y z = all_app (le4 x) (le4 y ++ le4 z) (omega arith, (omega arith, (omega arith, (omega arith, tt))))
     (all_app (le4 y) (le4 z) (omega arith, (omega arith, (omega arith, (omega arith, tt)))) (omega arith, (omega arith, (omega arith, (omega arith, tt)))))
 
-front_low : (sh : Shape) (used : ℕ) → sh.code < 256 → sh.columns < 256 → sh.slots < 256 → All (λ x. x < 256) (front_bytes sh used)
+front_low : (sh : Shape) (used : ℕ) → sh.code < 256 → sh.columns < 256 → sh.slots < 256 → AllByRecursion (λ x. x < 256) (front_bytes sh used)
 unfolding front_bytes
 front_low sh used a b c = (omega arith, (omega arith, (omega arith, (omega arith, (a, (b, (c, (omega arith, fours sh.blocks sh.cells used))))))))
 

@@ -19,7 +19,14 @@ finish_column-requires g c =
     let kept = c.loop-row.invariant.0 in
     let blocks = kept.blocks in
     let cells = kept.cells in
-    (kept.on ∙ c.requires.plane_value, kept.slots ∙ c.requires.plane_value_2, omega arith, omega arith, omega arith, omega arith)
+    record {
+      plane_value = kept.on ∙ c.requires.plane_value;
+      plane_value_2 = kept.slots ∙ c.requires.plane_value_2;
+      n_nonzero = omega arith;
+      stripe_bound = omega arith;
+      from_bound = omega arith;
+      cell_len = omega arith;
+    }
 
 pub returns-in_err-finish_column : goal.returns-in_err-finish_column
 returns-in_err-finish_column g c =
