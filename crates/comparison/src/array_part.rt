@@ -260,7 +260,7 @@ fn on_reference(reference: &mut Reference, deed: Deed, work: usize) -> Said {
 // Whether the bytes from a place on are these.
 fn stands_at(bytes: &[u8], at: usize, x: &Block) -> bool {
     match bytes.get(at..at.saturating_add(512)) {
-        Some(part) => part == x,
+        Some(part) => part == x.as_slice(),
         None => false,
     }
 }

@@ -165,7 +165,7 @@ fn is_right(call: &Call<'_>, answer: &Answer, edited: &[u8]) -> bool {
     let at = (*number as usize) * 512;
     match answer {
         Answer::Block(block) => match edited.get(at..at + 512) {
-            Some(part) => part == block,
+            Some(part) => part == block.as_slice(),
             None => false,
         },
         _ => false,
