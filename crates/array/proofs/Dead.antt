@@ -1,5 +1,5 @@
 -- Counting dead slots one by one.
-use Rattle.std.proofs.Common.{◌≡◌, ℕ, suc, ◌+◌, ◌<◌, ◌≤◌, Bool, true, false, cond, not, sym, refl, ap, ◌∙◌, add-one, arith, below_more}
+use Rattle.std.proofs.Common.{◌≡◌, ℕ, ◌+◌, ◌<◌, ◌≤◌, Bool, true, false, cond, not, refl, ap, add-one, arith, below_more}
 use Rattle.layout.specs.Counts.{count}
 
 pub at_most_one : (b : Bool) → cond b 1 0 ≤ 1

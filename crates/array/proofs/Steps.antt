@@ -1,6 +1,6 @@
 -- Stores performed one by one.
-use Rattle.std.proofs.Common.{◌≡◌, ℕ, List, [], ◌∷◌, ◌++◌, Ok, Err, Result, sym, ap, ◌∙◌, subst, inl, inr}
-use Rattle.backplane.specs.Plane.{Sector, Store, stored}
+use Rattle.std.proofs.Common.{◌≡◌, ℕ, List, ◌++◌, Ok, Err, Result, sym, ap, ◌∙◌, subst}
+use Rattle.backplane.specs.Plane.{Sector, Store}
 use Rattle.backplane.specs.Meaning.{Bytes}
 use Rattle.backplane.specs.Stores.{stored_all, Cutting}
 use Rattle.backplane.proofs.Runs.{stored-append, stored-slots, stored-blocks, stored-cells, stored_on, stored-live, cut-append, cut-after}

@@ -1,11 +1,11 @@
 -- What a call of the array answers and leaves, by the rules.
 use Rattle.std.specs.Prelude.{◌≡◌, ℕ, ◌-◌, Bool, cond, ◌⊎◌, List, [], ◌∷◌, map, length, replicate, Some, None, Ok, Err, Option, Result}
 use Rattle.std.specs.List.{range_with_len, flat_map}
-use Rattle.backplane.specs.Plane.{Plane, Sector, Store, to_block}
+use Rattle.backplane.specs.Plane.{Sector, Store, to_block}
 use Rattle.backplane.specs.Meaning.{Bytes}
 use Rattle.backplane.specs.Stores.{stored_all, Cutting}
 use Rattle.backplane.specs.declared.fault.Place.{Place}
-use Rattle.backplane.specs.declared.fault.Place.TheVariants.{OfBlock, OfCell}
+use Rattle.backplane.specs.declared.fault.Place.TheVariants.{OfCell}
 use Rattle.backplane.specs.declared.fault.BackplaneFault.{BackplaneFault}
 use Rattle.backplane.specs.declared.fault.BackplaneFault.TheVariants.{Off, NoPlace, Dead, Live, Cut}
 use Rattle.backplane.specs.declared.Backplane.{Ghosts as PlaneGhosts}
@@ -15,7 +15,7 @@ use Rattle.layout.specs.Limits.{within_limits}
 use Rattle.layout.specs.declared.header.Header.{Header}
 use Rattle.array.specs.declared.array.Array.{Array}
 use Rattle.model.specs.Coding.{Coding, byte_coding}
-use Rattle.model.specs.Verdict.{Refusal, cut_at, Answer, done, Reply, answered, refused, Verdict, Ends}
+use Rattle.model.specs.Verdict.{cut_at, Answer, done, Reply, answered, refused, Verdict, Ends}
 use Rattle.model.specs.Rules.{Call, short_work, shape_of, opened, verdict}
 use Rattle.faults.specs.declared.fault.LogFault.{LogFault}
 use Rattle.faults.specs.declared.fault.LogFault.TheVariants.{Full, Pending, Damaged, Overfull, AtCell}

@@ -1,10 +1,9 @@
 -- What a fault's absence says, and which faults there can be.
-use Rattle.std.proofs.Common.{◌≡◌, ℕ, ◌<◌, Bool, true, false, cond, ◌&&◌, eqb, ltb, List, [], length, Some, None, Ok, Err, Option, refl, arith}
+use Rattle.std.proofs.Common.{◌≡◌, ℕ, ◌<◌, Bool, true, false, cond, ◌&&◌, eqb, ltb, List, length, Some, None, Err, Option, refl, arith}
 use Rattle.std.proofs.lemmas.Bool.{ltb-true, eqb-true, and_parts}
-use Rattle.backplane.specs.declared.fault.Place.{Place}
 use Rattle.backplane.specs.declared.fault.BackplaneFault.{BackplaneFault}
 use Rattle.backplane.specs.declared.fault.BackplaneFault.TheVariants.{Off, NoPlace, Dead, Live, Cut}
-use Rattle.backplane.specs.Plane.{Plane, Store, to_block, to_cell}
+use Rattle.backplane.specs.Plane.{Store, to_block, to_cell}
 use Rattle.backplane.specs.Meaning.{Bytes, has_place, on_live, fault_of, fit_fault, Stored}
 
 -- a test that was passed

@@ -1,5 +1,5 @@
 -- Lists of stores: one after another, and what they leave as it was.
-use Rattle.std.proofs.Common.{◌≡◌, ℕ, Bool, ◌⊎◌, List, [], ◌∷◌, ◌++◌, Some, None, Option, refl, subst, inl, inr}
+use Rattle.std.proofs.Common.{◌≡◌, ◌⊎◌, List, [], ◌∷◌, ◌++◌, Some, None, Option, refl, subst, inl, inr}
 use Rattle.backplane.specs.declared.fault.Place.{Place}
 use Rattle.backplane.specs.Plane.{Plane, Store, to_block, to_cell, stored}
 use Rattle.backplane.specs.Stores.{stored_all, place_of, CutBy, Cutting, Performed}

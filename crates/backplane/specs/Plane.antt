@@ -1,5 +1,5 @@
 -- What a backplane holds. `B` is what stands in one block or one cell: in a contract its bytes.
-use Rattle.std.specs.Prelude.{◌≡◌, ℕ, ◌<◌, ◌≤◌, Bool, true, false, cond, ◌&&◌, ◌⊎◌, List, length, ◌==◌, nat_lt}
+use Rattle.std.specs.Prelude.{◌≡◌, ℕ, ◌<◌, Bool, false, cond, ◌&&◌, List, length, ◌==◌, nat_lt}
 use Rattle.std.specs.List.{AllByRecursion}
 
 pub record Plane (B : Type 0) : Type 0 where

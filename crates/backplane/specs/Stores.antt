@@ -1,5 +1,5 @@
 -- A list of stores, done in order or cut at one of them.
-use Rattle.std.specs.Prelude.{◌≡◌, ℕ, Bool, true, false, ◌⊎◌, List, [], ◌∷◌, Some, None, Option}
+use Rattle.std.specs.Prelude.{◌≡◌, false, ◌⊎◌, List, [], ◌∷◌, Some, None, Option}
 use Rattle.backplane.specs.Plane.{Plane, Store, to_block, to_cell, put, stored, switched}
 use Rattle.backplane.specs.declared.fault.Place.{Place}
 use Rattle.backplane.specs.declared.fault.Place.TheVariants.{OfBlock, OfCell}

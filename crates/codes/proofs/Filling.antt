@@ -1,5 +1,5 @@
 -- What the functions compute, as the definitions have it.
-use Rattle.std.proofs.Common.{◌≡◌, ℕ, zero, suc, ◌+◌, ◌-◌, ◌*◌, ◌%◌, ◌<◌, ◌≤◌, Bool, true, false, cond, ◌&&◌, ltb, ◌⊎◌, List, [], ◌∷◌, length, get_or, take, set, sym, refl, ap, ◌∙◌, inl, inr, add-zero, add-one, arith}
+use Rattle.std.proofs.Common.{◌≡◌, ℕ, zero, suc, ◌+◌, ◌-◌, ◌*◌, ◌%◌, ◌<◌, ◌≤◌, Bool, cond, ltb, ◌⊎◌, List, [], ◌∷◌, length, get_or, take, set, sym, refl, ap, ◌∙◌, inl, inr, add-zero, add-one, arith}
 use lib.Bits.{bit_xor}
 use Rattle.std.proofs.lemmas.Bool.{cases_lt, cond-true, cond-false, lt-ltb, le-ltb}
 use Rattle.std.proofs.lemmas.List.{length-take-le, get_or-take, ext_get_or}
@@ -7,9 +7,9 @@ use Rattle.field.specs.Field.{exp, times}
 use Rattle.field.proofs.Rules.{exp-mod}
 use Rattle.codes.specs.Code.{alone, coded, lost_at}
 use Rattle.codes.specs.Sums.{total, weighted}
-use Rattle.codes.specs.Solving.{next_lost, cleared, gap, remade}
+use Rattle.codes.specs.Solving.{next_lost, cleared, gap}
 use Rattle.codes.specs.Single.{single, fill_one, data_one}
-use Rattle.codes.specs.Double.{double, lone, former, pair, fill_two, data_two, divided}
+use Rattle.codes.specs.Double.{double, lone, former, fill_two, data_two}
 use Rattle.codes.specs.Weights.{total-linear, weighted-linear}
 use Rattle.codes.specs.Coded.{coded-length, coded-data, coded-check}
 

@@ -1,8 +1,8 @@
 -- From a code's laws alone: what solving fills in is the only data that fits, and a coded row is restored.
-use Rattle.std.proofs.Common.{◌≡◌, ℕ, zero, suc, ◌+◌, ◌-◌, ◌<◌, ◌≤◌, Bool, true, false, cond, not, ◌&&◌, ltb, ◌⊎◌, List, [], ◌∷◌, length, get_or, take, drop, sym, refl, ap, ◌∙◌, inl, inr, arith}
-use Rattle.std.proofs.lemmas.Bool.{cases_lt, ltb-true, ltb-false, lt-ltb, le-ltb, and_parts, not-true, not-false, true≢false}
+use Rattle.std.proofs.Common.{◌≡◌, ℕ, ◌+◌, ◌-◌, ◌<◌, ◌≤◌, Bool, true, false, cond, not, ltb, List, length, get_or, take, sym, refl, ap, ◌∙◌, arith}
+use Rattle.std.proofs.lemmas.Bool.{ltb-true, ltb-false, lt-ltb, le-ltb, and_parts, not-true, not-false, true≢false}
 use Rattle.std.proofs.lemmas.List.{length-take-le, get_or-take, ext_get_or}
-use Rattle.codes.specs.Code.{Bytes, coded, count, Agree, Apart, lost_at, lost_count, solvable, Lowest, Solves, Solved, Only, Restored}
+use Rattle.codes.specs.Code.{Bytes, coded, count, Agree, Apart, lost_at, solvable, Lowest, Solves, Solved, Only, Restored}
 use Rattle.codes.specs.Counts.{count_same, count-split, count-not, first, count-first, lost-split, lost-none}
 use Rattle.codes.specs.Coded.{coded-length, coded-data, coded-check, Fit, fit, unfit}
 use Rattle.codes.specs.Steps.{take-bytes}

@@ -1,11 +1,11 @@
 -- The places of a coded row, and two coded rows that agree.
-use Rattle.std.specs.Prelude.{◌≡◌, ℕ, zero, suc, ◌+◌, ◌-◌, ◌<◌, ◌≤◌, Bool, true, false, cond, ◌&&◌, ◌⊎◌, List, [], ◌∷◌, ◌++◌, map, length, drop, ◌==◌, bit_xor, nat_le, slice_index, refl}
+use Rattle.std.specs.Prelude.{◌≡◌, ℕ, ◌+◌, ◌<◌, ◌≤◌, Bool, true, false, ◌&&◌, ◌⊎◌, List, map, length, drop, ◌==◌, bit_xor, nat_le, slice_index}
 use Rattle.std.proofs.Common.{sym, ◌∙◌, ap, inl, inr, arith, zero-add}
 use Rattle.std.specs.List.{range_with_len}
 use Rattle.std.proofs.lemmas.Bool.{cases_lt, and_parts, leb-true, eqb-true, and_from, le-leb, eq-eqb}
 use Rattle.std.proofs.lemmas.List.{get_or_append_left, get_or-append-add, length-append, ext_get_or, get_or_past}
 use Rattle.std.proofs.lemmas.List.FromFn.{get_or-map-range_with_len, length-map-range_with_len}
-use Rattle.codes.specs.Code.{Bytes, plus, coded, Agree, solvable, lost_count}
+use Rattle.codes.specs.Code.{plus, coded, Agree, solvable, lost_count}
 use Rattle.codes.specs.SumsLemmas.{cancel, same_sum}
 use Rattle.codes.specs.Weights.{get_or-plus}
 

@@ -1,6 +1,6 @@
 -- Counting.
-use Rattle.std.specs.Prelude.{◌≡◌, ℕ, zero, suc, ◌+◌, ◌-◌, ◌<◌, ◌≤◌, Bool, true, false, cond, not, ◌&&◌, ◌⊎◌, List, [], ◌∷◌, drop, ◌≢◌, nat_lt, refl}
-use Rattle.std.proofs.Common.{sym, ◌∙◌, ap, inl, inr, arith, add-zero, zero-add, add-suc}
+use Rattle.std.specs.Prelude.{◌≡◌, ℕ, zero, suc, ◌+◌, ◌<◌, ◌≤◌, Bool, true, false, cond, not, ◌&&◌, ◌⊎◌, List, [], ◌∷◌, drop, ◌≢◌, nat_lt, refl}
+use Rattle.std.proofs.Common.{sym, ◌∙◌, inl, inr, arith, add-zero, zero-add, add-suc}
 use Rattle.std.proofs.lemmas.Bool.{cases_eq, ltb-true, ltb-false, true≢false}
 use Rattle.codes.specs.Code.{count, lost_at, lost_count}
 

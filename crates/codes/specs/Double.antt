@@ -1,5 +1,5 @@
 -- Code 2: two check rows, the sum of the data (P) and the sum of E(j) times column j (Q).
-use Rattle.std.specs.Prelude.{ℕ, zero, suc, ◌+◌, ◌-◌, Bool, true, false, cond, List, ◌==◌, bit_xor, nat_lt, slice_set}
+use Rattle.std.specs.Prelude.{ℕ, zero, suc, ◌-◌, Bool, cond, List, ◌==◌, bit_xor, nat_lt, slice_set}
 use Rattle.field.specs.Field.{exp, times, reciprocal}
 use Rattle.codes.specs.Code.{lost_at}
 use Rattle.codes.specs.Sums.{total, weighted}

@@ -4,17 +4,17 @@ use Rattle.std.proofs.Math.Path.{refl}
 use Rattle.std.proofs.Common.{sym, ◌∙◌, ap, inl, inr, arith, add-zero, one-mul}
 use Rattle.std.specs.Int.Bits.{bit_xor, xor_assoc, xor_zero_r, xor_self}
 use Rattle.std.proofs.lemmas.Nat.{xor_lt, xor_comm}
-use Rattle.std.proofs.lemmas.Bool.{cases_eq, cases_lt, ltb-true, ltb-false, true≢false, cond-false, ne_eqb, cases_Bool}
-use Rattle.std.proofs.lemmas.List.{get_or-take, get_or_past, length-take, get_or-set_same, get_or-set_other, length-set}
+use Rattle.std.proofs.lemmas.Bool.{cases_eq, cases_lt, ltb-true, ltb-false, true≢false, cond-false, ne_eqb}
+use Rattle.std.proofs.lemmas.List.{get_or-set_other, length-set}
 use Rattle.field.specs.Field.{exp, times, reciprocal}
 use Rattle.field.proofs.Rules.{exp-byte}
 use Rattle.field.proofs.Laws.{times-byte, times-adds, times-comm, exp-different}
 use Rattle.field.proofs.Products.{times_none, times-cancel, times-over}
-use Rattle.codes.specs.Code.{Bytes, plus, filled, coded, count, Agree, Apart, lost_at, solvable, Lowest, Solves}
+use Rattle.codes.specs.Code.{Bytes, plus, filled, count, Apart, lost_at, solvable, Lowest, Solves}
 use Rattle.codes.specs.Sums.{total, weighted}
 use Rattle.codes.specs.Solving.{next_lost, cleared, gap}
 use Rattle.codes.specs.Double.{double, divided, lone, former, pair, fill_two, data_two, solved_two}
-use Rattle.codes.specs.SumsLemmas.{cancel, same_sum, back, middle, twice}
+use Rattle.codes.specs.SumsLemmas.{cancel, same_sum, back, middle}
 use Rattle.codes.specs.Weights.{Linear, plain, powers-of, total-linear, weighted-linear}
 use Rattle.codes.specs.Counts.{count-zero, count-one, two-places}
 use Rattle.codes.specs.Steps.{Next, next-lost, cleared-length, cleared-kept, cleared-lost, cleared-bytes, set-bytes, set-zero, take-bytes, completes}

@@ -1,5 +1,5 @@
 -- Code 1: one check row, the sum of the data.
-use Rattle.std.specs.Prelude.{ℕ, zero, suc, Bool, true, false, cond, List, nat_lt, slice_set}
+use Rattle.std.specs.Prelude.{ℕ, zero, suc, Bool, cond, List, nat_lt, slice_set}
 use Rattle.codes.specs.Sums.{total}
 use Rattle.codes.specs.Solving.{next_lost, cleared, gap, completed}
 

@@ -1,14 +1,14 @@
 -- Code 1 keeps the laws.
-use Rattle.std.specs.Prelude.{◌≡◌, ℕ, zero, suc, ◌+◌, ◌-◌, ◌<◌, ◌≤◌, Bool, true, false, cond, ◌⊎◌, List, [], ◌∷◌, length, take, replicate, ◌≢◌, bit_xor, nat_lt, slice_index, slice_set, refl}
-use Rattle.std.proofs.Common.{sym, ◌∙◌, ap, inl, inr, arith, add-zero}
+use Rattle.std.specs.Prelude.{◌≡◌, ℕ, zero, suc, ◌+◌, ◌<◌, ◌≤◌, Bool, true, false, cond, ◌⊎◌, List, length, take, replicate, ◌≢◌, bit_xor, nat_lt, slice_index, slice_set, refl}
+use Rattle.std.proofs.Common.{sym, ◌∙◌, ap, inl, inr, arith}
 use Rattle.std.proofs.lemmas.Nat.{xor_lt}
 use Rattle.std.proofs.lemmas.Bool.{cases_eq, cases_lt, ltb-true, ltb-false, true≢false}
 use Rattle.std.proofs.lemmas.List.{get_or-take, get_or_past, length-take, get_or-set_same, get_or-set_other, length-set}
-use Rattle.codes.specs.Code.{Bytes, plus, filled, coded, count, Agree, Apart, lost_at, solvable, Lowest, Solves}
+use Rattle.codes.specs.Code.{Bytes, plus, filled, Apart, lost_at, solvable, Lowest, Solves}
 use Rattle.codes.specs.Sums.{total}
 use Rattle.codes.specs.Solving.{next_lost, cleared, gap}
 use Rattle.codes.specs.Single.{single, fill_one, data_one, solved_one}
-use Rattle.codes.specs.SumsLemmas.{cancel, same_sum, back}
+use Rattle.codes.specs.SumsLemmas.{same_sum, back}
 use Rattle.codes.specs.Weights.{Linear, plain, total-linear}
 use Rattle.codes.specs.Counts.{count-zero, one_place}
 use Rattle.codes.specs.Steps.{Next, next-lost, cleared-length, cleared-kept, cleared-lost, cleared-bytes, set-bytes, take-bytes, completes}

@@ -1,5 +1,5 @@
 -- The steps of solving that all codes share.
-use Rattle.std.specs.Prelude.{ℕ, zero, suc, ◌+◌, Bool, true, false, cond, List, take, bit_xor, slice_index, slice_set}
+use Rattle.std.specs.Prelude.{ℕ, zero, suc, ◌+◌, Bool, cond, List, take, bit_xor, slice_index, slice_set}
 use Rattle.codes.specs.Code.{lost_at}
 
 -- The first lost place among the n from c on, or c + n if there is none.

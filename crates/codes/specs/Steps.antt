@@ -1,9 +1,9 @@
 -- What the steps of solving leave at each place.
-use Rattle.std.specs.Prelude.{◌≡◌, ℕ, zero, suc, ◌+◌, ◌-◌, ◌<◌, ◌≤◌, Bool, true, false, cond, not, ◌&&◌, ◌⊎◌, List, [], ◌∷◌, length, take, drop, ◌≢◌, slice_index, slice_index_or, slice_set, refl}
+use Rattle.std.specs.Prelude.{◌≡◌, ℕ, zero, suc, ◌+◌, ◌-◌, ◌<◌, ◌≤◌, Bool, true, false, cond, ◌⊎◌, List, [], ◌∷◌, length, take, drop, ◌≢◌, slice_index, slice_index_or, slice_set, refl}
 use Rattle.std.proofs.Common.{sym, ◌∙◌, ap, inl, inr, arith, add-one}
 use Rattle.std.proofs.lemmas.Bool.{cases_eq, cases_lt, true≢false}
-use Rattle.std.proofs.lemmas.List.{length-set, get_or-set_same, get_or-set_other, same_lists, get_or-take, length-take, get_or_default, take-set-le, at_drop_more}
-use Rattle.codes.specs.Code.{Bytes, Lowest, Solves, lost_at, lost_count, count}
+use Rattle.std.proofs.lemmas.List.{length-set, get_or-set_same, get_or-set_other, take-set-le, at_drop_more}
+use Rattle.codes.specs.Code.{Bytes, Lowest, Solves, lost_at, lost_count}
 use Rattle.codes.specs.Solving.{next_lost, cleared, remade, completed}
 
 pub cleared-length : (lost : List Bool) (n : ℕ) (row : List ℕ) → length (cleared lost n row) ≡ length row

@@ -1,14 +1,13 @@
 -- A check row that adds up the columns, each by a weight that respects sums.
-use Rattle.std.specs.Prelude.{◌≡◌, ℕ, zero, suc, ◌+◌, ◌-◌, ◌*◌, ◌<◌, ◌≤◌, ◌⊎◌, List, [], ◌∷◌, ◌++◌, length, take, replicate, ◌≢◌, bit_xor, slice_index, slice_set, refl}
+use Rattle.std.specs.Prelude.{◌≡◌, ℕ, zero, suc, ◌-◌, ◌*◌, ◌<◌, ◌≤◌, ◌⊎◌, List, [], ◌∷◌, ◌++◌, length, take, replicate, ◌≢◌, bit_xor, slice_index, slice_set, refl}
 use Rattle.std.proofs.Common.{sym, ap, ◌∙◌, inl, inr, arith}
-use Rattle.std.specs.Int.Bits.{xor_zero_l, xor_zero_r}
-use Rattle.std.proofs.lemmas.Nat.{xor_lt}
-use Rattle.std.proofs.lemmas.Bool.{cases_eq, cases_lt}
+use Rattle.std.specs.Int.Bits.{xor_zero_r}
+use Rattle.std.proofs.lemmas.Bool.{cases_lt}
 use Rattle.std.proofs.lemmas.List.{get_or-take, get_or_append_left, get_or-append_right, get_or_past, get_or-set_same, get_or-set_other, length-replicate}
 use Rattle.field.specs.Field.{exp, times}
 use Rattle.field.proofs.Laws.{times-zero-r, times-adds, times-byte}
 use Rattle.field.proofs.Rules.{exp-byte}
-use Rattle.codes.specs.Code.{Bytes, plus, filled, alone}
+use Rattle.codes.specs.Code.{Bytes, plus, filled}
 use Rattle.codes.specs.Sums.{sum_to, total, weighted}
 use Rattle.codes.specs.SumsLemmas.{sum_same, sum-none, sum-adds, sum-byte, sum-change, sum_one}
 

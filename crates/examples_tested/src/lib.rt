@@ -16,7 +16,7 @@ fn told(r: Result<(), ArrayFault>) -> (u32, u32) {
 mod tests {
     use super::told;
     use array::array::Array;
-    use codes::{Code, SingleParity, encode, restore};
+    use codes::{Code, DoubleParity, SingleParity, encode, restore};
     use field::{double, inverse, logarithm, power, product};
     use layout::stripes::{locate, place};
     use memory::Memory;
@@ -42,25 +42,23 @@ mod tests {
         assert!(rt; encode::<SingleParity>(3, &mut single));
         assert_eq!(rt; single, [1, 2, 3, 0]);
         let mut pair = [1, 2, 3, 77, 77];
-        assert!(rt; encode::<codes::DoubleParity>(3, &mut pair));
+        assert!(rt; encode::<DoubleParity>(3, &mut pair));
         assert_eq!(rt; pair, [1, 2, 3, 0, 9]);
     }
 
     #[test]
     fn two_lost_bytes(rt: HostRuntime) {
         let mut row = [0, 0, 3, 0, 9];
-        assert!(rt; restore::<codes::DoubleParity>(3, &mut row, &[true, true]));
+        assert!(rt; restore::<DoubleParity>(3, &mut row, &[true, true]));
         assert_eq!(rt; row, [1, 2, 3, 0, 9]);
     }
 
     #[test]
     fn rows_that_are_refused(rt: HostRuntime) {
         let mut row = [5, 6, 7, 8];
-        assert!(rt; !<SingleParity as Code>::solve(3, &mut row, &[true, true]));
-        assert!(rt; !<SingleParity as Code>::solve(2, &mut row, &[true]));
-        assert!(rt;
-            !<SingleParity as Code>::solve(3, &mut row, &[false, false, false, false, true])
-        );
+        assert!(rt; !SingleParity::solve(3, &mut row, &[true, true]));
+        assert!(rt; !SingleParity::solve(2, &mut row, &[true]));
+        assert!(rt; !SingleParity::solve(3, &mut row, &[false, false, false, false, true]));
         assert_eq!(rt; row, [5, 6, 7, 8]);
     }
 

@@ -1,7 +1,4 @@
 -- Which refusal of the rules belongs to each fault: its number, the layer it arose in, and two details.
-use Rattle.std.specs.Prelude.{ℕ}
-use Rattle.backplane.specs.declared.fault.Place.{Place}
-use Rattle.backplane.specs.declared.fault.Place.TheVariants.{OfBlock, OfCell}
 use Rattle.backplane.specs.declared.fault.BackplaneFault.{BackplaneFault}
 use Rattle.backplane.specs.declared.fault.BackplaneFault.TheVariants.{Off, NoPlace, Dead, Live, Cut}
 use Rattle.backplane.specs.Faults.{number}

@@ -1,10 +1,10 @@
 -- The laws of doubling and of products, from the tables' rules.
-use Rattle.std.proofs.Common.{◌≡◌, ℕ, zero, suc, ◌+◌, ◌-◌, ◌*◌, ◌/◌, ◌%◌, ◌^◌, ◌<◌, ◌≤◌, Bool, true, false, cond, ◌&&◌, ◌||◌, T, eqb, ltb, ◌⊎◌, List, [], ◌∷◌, length, get_or, sym, refl, ap, ◌∙◌, inl, inr, add_assoc, add_comm, arith, eqb→eq, rules}
+use Rattle.std.proofs.Common.{◌≡◌, ℕ, zero, suc, ◌+◌, ◌-◌, ◌%◌, ◌<◌, Bool, true, false, cond, eqb, ltb, ◌⊎◌, sym, refl, ap, ◌∙◌, inl, inr, add_comm, arith, eqb→eq, rules}
 use lib.Bits.{bit_xor, xor_lt, xor_zero_l}
-use Rattle.std.proofs.lemmas.Bool.{cases_eq, cases_lt, cond-false, ltb-true, eqb-true}
+use Rattle.std.proofs.lemmas.Bool.{cases_eq, cond-false, ltb-true}
 use Rattle.field.specs.Field.{doubled, exp, log, times, reciprocal}
 use Rattle.field.proofs.Test.{below, at-below, from-T}
-use Rattle.field.proofs.Rules.{exp-again, exp-more, exp-mod, exp-log, log-exp, log-below, exp-byte}
+use Rattle.field.proofs.Rules.{exp-more, exp-mod, exp-log, log-exp, log-below, exp-byte}
 
 -- doubling respects sums: one test over all pairs of bytes
 abbrev adds : ℕ → ℕ → Bool

@@ -1,12 +1,12 @@
 -- The product is that of polynomials modulo 0x11D, and what the functions make of the tables.
-use Rattle.std.proofs.Common.{◌≡◌, ℕ, zero, suc, ◌+◌, ◌-◌, ◌*◌, ◌/◌, ◌%◌, ◌^◌, ◌<◌, ◌≤◌, Bool, true, false, cond, ◌&&◌, ◌||◌, T, eqb, ltb, ◌⊎◌, sym, refl, ap, ◌∙◌, inl, inr, arith, eqb→eq, rules}
-use lib.Bits.{bit_xor, xor_lt, xor_zero_l, xor_zero_r}
-use Rattle.std.proofs.lemmas.Bool.{cases_eq, ltb-true, cond-false}
+use Rattle.std.proofs.Common.{◌≡◌, ℕ, zero, suc, ◌+◌, ◌-◌, ◌/◌, ◌%◌, ◌^◌, ◌<◌, Bool, cond, eqb, ◌⊎◌, sym, refl, ap, ◌∙◌, inl, inr, arith, eqb→eq, rules}
+use lib.Bits.{bit_xor}
+use Rattle.std.proofs.lemmas.Bool.{cases_eq}
 use Rattle.field.specs.Field.{doubled, exp, log, times, reciprocal, times_x, polynomial}
 use Rattle.field.specs.Laws.{FieldLaws, Order255}
-use Rattle.field.proofs.Test.{below, at-below, from-T}
-use Rattle.field.proofs.Rules.{exp-again, exp-more, exp-mod, exp-log, log-exp, log-below, exp-byte}
-use Rattle.field.proofs.Laws.{up, up-byte, doubled-byte, times-is, times-up, times-adds, times_above, times-zero-l, times-zero-r, times-comm, times-assoc, times-one, times-byte, reciprocal-byte, times-reciprocal, exp-different}
+use Rattle.field.proofs.Test.{at-below}
+use Rattle.field.proofs.Rules.{exp-again, exp-log, log-exp, log-below, exp-byte}
+use Rattle.field.proofs.Laws.{up, doubled-byte, times-is, times-up, times-adds, times_above, times-zero-l, times-zero-r, times-comm, times-assoc, times-one, times-byte, reciprocal-byte, times-reciprocal, exp-different}
 
 times_x-is : (a : ℕ) → a < 256 → times_x a ≡ doubled a
 times_x-is a h = eqb→eq _ _ (at-below (λ x. eqb (times_x x) (doubled x)) 256 tt a h)

@@ -1,5 +1,5 @@
 -- The field of 256 elements. An element is a byte, a sum is an exclusive or, and a product goes by the powers of 2.
-use Rattle.std.specs.Prelude.{ℕ, zero, suc, ◌+◌, ◌-◌, ◌*◌, ◌/◌, ◌%◌, Bool, true, false, cond, List, [], ◌∷◌, Some, None, Option, ◌==◌, bit_xor, nat_lt}
+use Rattle.std.specs.Prelude.{ℕ, zero, suc, ◌+◌, ◌-◌, ◌*◌, ◌/◌, ◌%◌, cond, List, [], ◌∷◌, Some, None, Option, ◌==◌, bit_xor, nat_lt}
 
 abbrev pub doubled : ℕ → ℕ
 doubled a = cond (nat_lt a 128) (2 * a) (bit_xor (2 * a - 256) 0x1D)

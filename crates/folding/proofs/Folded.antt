@@ -1,5 +1,5 @@
 -- How a fold ends by the rules.
-use Rattle.std.proofs.Common.{◌≡◌, ℕ, zero, suc, ◌+◌, ◌-◌, ◌<◌, ◌≤◌, Bool, true, false, cond, not, ltb, List, [], ◌∷◌, ◌++◌, map, Some, Ok, Option, Result, sym, refl, ap, ◌∙◌, subst, inl, inr, add-one, arith}
+use Rattle.std.proofs.Common.{◌≡◌, ℕ, zero, suc, ◌+◌, ◌-◌, ◌<◌, ◌≤◌, Bool, true, false, cond, not, ltb, List, [], ◌∷◌, ◌++◌, map, Some, Ok, Option, Result, sym, refl, ap, ◌∙◌, subst, inr, add-one, arith}
 use Rattle.std.proofs.lemmas.Bool.{cond-true, lt-ltb, le-ltb}
 use Rattle.std.specs.List.{range_with_len}
 use Rattle.backplane.specs.Plane.{Sector, Store, to_block, to_cell}
@@ -11,8 +11,8 @@ use Rattle.layout.specs.Header.{header_bytes, with_used}
 use Rattle.layout.specs.Stripes.{slot_of}
 use Rattle.model.specs.Coding.{Coding, width, check_rows}
 use Rattle.model.specs.Log.{pending, owing}
-use Rattle.model.specs.Row.{good_at, lost_at, missing}
-use Rattle.model.specs.Rules.{good_of, shape_of, to_cells, to_header, to_checks, is_good, log_of, lost_in, row_of, grown, append, folded, fold_open}
+use Rattle.model.specs.Row.{lost_at, missing}
+use Rattle.model.specs.Rules.{good_of, shape_of, to_cells, to_checks, is_good, log_of, lost_in, row_of, grown, append, folded, fold_open}
 use Rattle.model.specs.Verdict.{of_number, nothing, make, Ends}
 use Rattle.rows.specs.Columns.{column_in, flagged}
 use Rattle.rows.specs.Rows.{HoldsRow}

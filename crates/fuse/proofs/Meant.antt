@@ -1,12 +1,12 @@
 -- From what a fuse promises of a store to what every backplane does.
-use Rattle.std.proofs.Common.{◌≡◌, ℕ, min, Bool, true, false, cond, ◌&&◌, eqb, ◌⊎◌, List, [], Some, None, Ok, Err, Option, Result, sym, refl, ap, ◌∙◌, inl, inr}
+use Rattle.std.proofs.Common.{◌≡◌, ℕ, Bool, true, false, cond, eqb, ◌⊎◌, List, Some, None, Ok, Err, Option, Result, sym, refl, ap, ◌∙◌, inl, inr}
 use mathlib.Core.Path.{subst⁻¹}
 use Rattle.backplane.specs.declared.fault.BackplaneFault.{BackplaneFault}
 use Rattle.backplane.specs.declared.fault.BackplaneFault.TheVariants.{Off, NoPlace, Dead, Live, Cut}
-use Rattle.backplane.specs.Plane.{Plane, Sector, Store, to_block, to_cell, content, put, stored, switched}
-use Rattle.backplane.specs.Meaning.{Bytes, fault_of, Stored}
-use Rattle.backplane.specs.Stores.{place_of, Leaves, CutBy}
-use Rattle.fuse.specs.Fused.{fused, mixed, cut_to, cutting, Fusing, CutAt, Through, Fused}
+use Rattle.backplane.specs.Plane.{Sector, Store, to_block, to_cell, content, put, stored, switched}
+use Rattle.backplane.specs.Meaning.{Bytes, Stored}
+use Rattle.backplane.specs.Stores.{Leaves, CutBy}
+use Rattle.fuse.specs.Fused.{fused, cut_to, cutting, Fusing, Through, Fused}
 
 -- what a store of the mixed bytes leaves, the cut store may leave
 either : (t : Bool) (y old new : List ℕ) → (y ≡ old) ⊎ (y ≡ cond t old new) → (y ≡ old) ⊎ (y ≡ new)

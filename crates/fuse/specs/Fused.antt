@@ -2,7 +2,7 @@
 use Rattle.std.specs.Prelude.{◌≡◌, ℕ, ◌-◌, min, Bool, true, false, cond, ◌&&◌, ◌⊎◌, List, ◌++◌, take, drop, Some, None, Ok, Err, Option, Result, ◌==◌}
 use Rattle.backplane.specs.declared.fault.BackplaneFault.{BackplaneFault}
 use Rattle.backplane.specs.declared.fault.BackplaneFault.TheVariants.{Off, NoPlace, Dead, Live, Cut}
-use Rattle.backplane.specs.Plane.{Plane, Sector, Store, to_block, to_cell, content, stored, switched}
+use Rattle.backplane.specs.Plane.{Sector, Store, to_block, to_cell, content, stored, switched}
 use Rattle.backplane.specs.Meaning.{Bytes, fault_of, Stored}
 use Rattle.backplane.specs.Stores.{place_of, Leaves, CutBy}
 use Rattle.fuse.specs.declared.Setting.{Setting}

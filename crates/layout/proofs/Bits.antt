@@ -1,5 +1,5 @@
 -- The bits of a byte, tried at all bytes.
-use Rattle.std.proofs.Common.{◌≡◌, ℕ, zero, suc, ◌-◌, ◌*◌, ◌%◌, ◌^◌, ◌<◌, Bool, true, false, cond, not, ◌&&◌, eqb, sym, refl, ap, ◌∙◌, inl, inr, arith}
+use Rattle.std.proofs.Common.{◌≡◌, ℕ, zero, suc, ◌-◌, ◌*◌, ◌%◌, ◌^◌, ◌<◌, Bool, true, false, cond, not, ◌&&◌, eqb, refl, ap, ◌∙◌, inl, inr, arith}
 use mathlib.Core.Bool.{beq, false≢true}
 use lib.Bits.{bit_or, bit_and}
 use Rattle.std.proofs.lemmas.Bool.{and_parts, cases_eq}

@@ -1,8 +1,8 @@
 -- Numbers of four bytes one after another.
-use Rattle.std.proofs.Common.{◌≡◌, ℕ, zero, suc, ◌+◌, ◌-◌, ◌*◌, ◌/◌, ◌%◌, ◌^◌, ◌<◌, ◌≤◌, List, [], ◌∷◌, ◌++◌, length, get_or, take, drop, replicate, sym, refl, ap, ◌∙◌, ap₂, mod-eq_of_lt, arith}
+use Rattle.std.proofs.Common.{◌≡◌, ℕ, zero, suc, ◌+◌, ◌-◌, ◌*◌, ◌/◌, ◌%◌, ◌<◌, List, [], ◌∷◌, ◌++◌, length, get_or, take, drop, replicate, sym, refl, ap, ◌∙◌, ap₂, mod-eq_of_lt, arith}
 use lib.Seq.{paste}
 use Rattle.std.specs.List.{flat_map}
-use Rattle.std.proofs.lemmas.List.{append_assoc, append-nil, take_at, drop-drop, drop_at, length-append, length-take, take_more, take_all, drop-replicate, get_or-append-add}
+use Rattle.std.proofs.lemmas.List.{append_assoc, take_at, drop-drop, drop_at, length-append, length-take, take_more, take_all, drop-replicate, get_or-append-add}
 use Rattle.std.proofs.lemmas.Nat.{shr-shr, div-add-mod', div_below}
 use Rattle.layout.specs.Bytes.{le4, four_at}
 

@@ -1,5 +1,5 @@
 -- In a stripe every slot holds one column, and every column lies in one slot.
-use Rattle.std.proofs.Common.{◌≡◌, ℕ, ◌+◌, ◌-◌, ◌*◌, ◌/◌, ◌%◌, ◌<◌, ◌≤◌, sym, refl, ap, ◌∙◌, mod-lt, mod-eq_of_lt, arith}
+use Rattle.std.proofs.Common.{◌≡◌, ℕ, ◌+◌, ◌-◌, ◌%◌, ◌<◌, sym, ap, ◌∙◌, mod-lt, mod-eq_of_lt, arith}
 use native.Mathlib.Nat.{add-mod_right, mod-add-mod, add-mod-mod}
 use Rattle.layout.specs.Stripes.{slot_of, column_on}
 

@@ -1,5 +1,5 @@
 -- Cell 0: what its bytes are, and when bytes are a cell 0.
-use Rattle.std.specs.Prelude.{ℕ, zero, suc, ◌+◌, ◌-◌, ◌*◌, Bool, true, cond, ◌&&◌, List, [], ◌∷◌, ◌++◌, map, replicate, Some, None, Option, nat_le, nat_lt, slice_index, slice_set}
+use Rattle.std.specs.Prelude.{ℕ, zero, suc, ◌+◌, ◌-◌, ◌*◌, Bool, true, cond, ◌&&◌, List, ◌∷◌, ◌++◌, map, replicate, Some, None, Option, nat_le, nat_lt, slice_index, slice_set}
 use Rattle.std.specs.List.{range_with_len, flat_map}
 use Rattle.std.specs.Str.{bytes_eq}
 use Rattle.layout.specs.Bytes.{le4, four_at}

@@ -4,7 +4,7 @@ use lib.Arith.{digits_lt, digits_div, digits_mod}
 use Rattle.std.specs.List.{AllByRecursion}
 use Rattle.std.proofs.lemmas.List.{get_or-set_same, get_or-set_other, length-replicate}
 use Rattle.std.proofs.lemmas.Bool.{cases_order, cases_Bool, eq-eqb, lt-ltb, ltb-true, eqb-true, eqb-false, and_parts, and_from, and_left, le-ltb, cond-true, cond-false, both_ways, false≢true}
-use Rattle.backplane.specs.Plane.{Plane, to_block, to_cell, stored, fitted}
+use Rattle.backplane.specs.Plane.{to_block, to_cell, stored, fitted}
 use Rattle.backplane.specs.Meaning.{Sound}
 use Rattle.memory.specs.Lent.{part, with_part, block_at, cell_at, alive, is_laid_out}
 use Rattle.memory.proofs.Parts.{part-here, part-elsewhere, part_filled, length_part, low_part}

@@ -1,12 +1,12 @@
 -- From what happens to the lent bytes to what it means of the backplane.
-use Rattle.std.proofs.Common.{◌≡◌, ℕ, ◌+◌, ◌*◌, ◌<◌, ◌≤◌, Bool, true, false, cond, ◌&&◌, eqb, ltb, leb, List, [], length, get_or, set, replicate, Some, None, Ok, Err, Result, sym, refl, ap, ◌∙◌, mul-le-mul_right, add-mul, arith}
+use Rattle.std.proofs.Common.{◌≡◌, ℕ, ◌+◌, ◌*◌, ◌<◌, ◌≤◌, Bool, true, false, cond, ◌&&◌, eqb, ltb, leb, List, [], length, get_or, set, replicate, None, Ok, Err, Result, sym, refl, ap, ◌∙◌, mul-le-mul_right, add-mul, arith}
 use lib.Arith.{digits_lt}
 use Rattle.std.proofs.lemmas.List.{length-replicate}
 use Rattle.std.proofs.ByRecursion.{All-from_get_or}
 use Rattle.std.proofs.lemmas.Bool.{lt-ltb, ltb-true, leb-true, eqb-true, and_parts, and_from, cond-true}
 use Rattle.backplane.specs.declared.fault.BackplaneFault.{BackplaneFault}
-use Rattle.backplane.specs.Plane.{Plane, Store, to_block, to_cell, content, placed, stored, fitted, pulled}
-use Rattle.backplane.specs.Meaning.{Bytes, fault_of, fit_fault, Stored, Read, Fitted, Fitting, Sound}
+use Rattle.backplane.specs.Plane.{Store, to_block, to_cell, content, placed, stored, fitted, pulled}
+use Rattle.backplane.specs.Meaning.{fault_of, fit_fault, Stored, Read, Fitted, Fitting, Sound}
 use Rattle.backplane.proofs.Free.{free-block, free-cell, free-slot, faulted}
 use Rattle.memory.specs.Lent.{part, with_part, block_at, cell_at, fits_memory, alive, is_laid_out}
 use Rattle.memory.specs.Held.{Held, in_force, view_of, with_bytes, with_lives, place_in, StoredIn, ReadFrom, filled, FittedIn, pulled_in}

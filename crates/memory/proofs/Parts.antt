@@ -1,5 +1,5 @@
 -- A part of a row of bytes, after another part was written.
-use Rattle.std.proofs.Common.{◌≡◌, ℕ, zero, suc, ◌+◌, ◌-◌, ◌*◌, ◌<◌, ◌≤◌, ◌⊎◌, List, [], ◌++◌, length, take, drop, replicate, sym, refl, ap, ◌∙◌, inl, inr, arith}
+use Rattle.std.proofs.Common.{◌≡◌, ℕ, zero, suc, ◌+◌, ◌-◌, ◌<◌, ◌≤◌, ◌⊎◌, List, ◌++◌, length, take, drop, replicate, sym, ap, ◌∙◌, inl, inr, arith}
 use Rattle.std.specs.List.{AllByRecursion}
 use Rattle.std.proofs.lemmas.List.{take_at, drop_at, length-take, length-drop, length-append, length-replicate, length-take-le, drop-take, drop-drop, take-append-le, drop-append-le, take-replicate, drop-replicate}
 use Rattle.std.proofs.lemmas.Slice.{drop-put_mid, take-put_mid_below}

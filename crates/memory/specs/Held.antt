@@ -1,7 +1,7 @@
 -- What a memory backplane holds, and what each of its functions leaves, to the byte.
-use Rattle.std.specs.Prelude.{◌≡◌, ℕ, ◌+◌, ◌*◌, ◌≤◌, Bool, true, false, cond, List, [], ◌++◌, length, replicate, Some, None, Ok, Err, Option, Result, nat_lt, slice_set}
+use Rattle.std.specs.Prelude.{◌≡◌, ℕ, ◌+◌, ◌*◌, ◌≤◌, Bool, true, false, cond, List, length, replicate, Some, None, Ok, Err, Result, nat_lt, slice_set}
 use Rattle.backplane.specs.declared.fault.BackplaneFault.{BackplaneFault}
-use Rattle.backplane.specs.Plane.{Plane, Store, to_block, to_cell, content}
+use Rattle.backplane.specs.Plane.{Store, to_block, to_cell, content}
 use Rattle.backplane.specs.Meaning.{Bytes, fault_of, fit_fault}
 use Rattle.memory.specs.declared.Memory.{Memory}
 use Rattle.memory.specs.Lent.{part, with_part, block_at, cell_at, fits_memory, is_laid_out}

@@ -1,6 +1,5 @@
 -- How a backplane lies in a row of bytes.
-use Rattle.std.specs.Prelude.{◌≡◌, ℕ, ◌+◌, ◌*◌, Bool, true, false, cond, ◌&&◌, List, [], ◌++◌, length, take, drop, ◌==◌, nat_le, nat_lt, slice_index_or}
-use Rattle.backplane.specs.Plane.{Plane}
+use Rattle.std.specs.Prelude.{ℕ, ◌+◌, ◌*◌, Bool, false, cond, ◌&&◌, List, [], ◌++◌, take, drop, ◌==◌, nat_le, nat_lt, slice_index_or}
 use Rattle.backplane.specs.Meaning.{Bytes}
 
 -- the 512 bytes from a place on

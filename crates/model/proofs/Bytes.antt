@@ -1,16 +1,16 @@
 -- What the rules say of bytes is the bytes of what they say of blocks.
-use Rattle.std.proofs.Common.{◌≡◌, ℕ, zero, suc, ◌+◌, ◌-◌, ◌*◌, ◌<◌, ◌≤◌, Bool, true, false, cond, not, ◌&&◌, eqb, ltb, List, [], ◌∷◌, ◌++◌, map, get_or, sym, refl, ap, ◌∙◌, subst, ap₂, arith}
+use Rattle.std.proofs.Common.{◌≡◌, ℕ, ◌+◌, ◌-◌, ◌<◌, ◌≤◌, Bool, true, false, cond, eqb, ltb, List, [], ◌∷◌, map, get_or, sym, refl, ap, ◌∙◌, ap₂, arith}
 use mathlib.Core.Path.{fun_ext}
 use Rattle.std.specs.List.{range_with_len}
 use Rattle.layout.specs.Bytes.{sum_of}
 use Rattle.layout.specs.Stripes.{slot_of}
 use Rattle.layout.specs.Counts.{count}
-use Rattle.model.specs.Coding.{Coding, width, share, only, check_rows, byte_coding, zeros, across, check_bytes, solve_bytes}
+use Rattle.model.specs.Coding.{Coding, share, only, byte_coding, zeros, check_bytes, solve_bytes}
 use Rattle.model.proofs.Laws.{CodeLaws}
 use Rattle.model.specs.Log.{Rec, write, parity, cells_of, pending, owing, owed, debt}
 use Rattle.model.specs.Row.{settled_with, raw, row}
 use Rattle.model.proofs.Counts.{count_same}
-use Rattle.model.proofs.State.{used, RecFits, LogFits}
+use Rattle.model.proofs.State.{used, LogFits}
 use Rattle.model.proofs.Block.{Block, none}
 use Rattle.model.proofs.Lift.{block_coding, solve-bytes, map_same}
 

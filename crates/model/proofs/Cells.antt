@@ -1,17 +1,16 @@
 -- Cells that hold a log are walked to that log.
-use Rattle.std.proofs.Common.{◌≡◌, ℕ, zero, suc, ◌+◌, ◌-◌, ◌*◌, ◌<◌, ◌≤◌, Bool, true, false, cond, not, ◌&&◌, eqb, ltb, leb, ◌⊎◌, List, [], ◌∷◌, ◌++◌, map, length, Some, None, Option, sym, refl, ap, ◌∙◌, subst, ap₂, inl, inr, add-zero, zero-add, add-one, arith}
+use Rattle.std.proofs.Common.{◌≡◌, ℕ, zero, suc, ◌+◌, ◌-◌, ◌<◌, ◌≤◌, Bool, true, false, cond, ltb, leb, ◌⊎◌, List, [], ◌∷◌, map, length, Some, None, sym, refl, ap, ◌∙◌, inl, inr, add-zero, zero-add, add-one, arith}
 use mathlib.Core.Path.{fun_ext}
 use native.Mathlib.Numerals.{add-two}
 use Rattle.std.specs.List.{range_with_len}
 use Rattle.std.proofs.lemmas.List.FromFn.{length-map-range_with_len}
-use Rattle.std.proofs.lemmas.Bool.{ne_eqb, eq-eqb, true≢false, lt-ltb, le-ltb, le-leb, ltb-true}
+use Rattle.std.proofs.lemmas.Bool.{ne_eqb, lt-ltb, le-ltb, le-leb, ltb-true}
 use Rattle.backplane.specs.Plane.{Plane, with_cell}
-use Rattle.layout.specs.declared.head.Head.{Head}
 use Rattle.layout.specs.declared.head.Head.TheVariants.{OfWrite, OfParity}
-use Rattle.layout.specs.Head.{head_cell, head_bytes, head_in, record_cells}
+use Rattle.layout.specs.Head.{head_in, record_cells}
 use Rattle.layout.proofs.Heads.{write-back, parity-back}
-use Rattle.model.specs.Coding.{Coding, check_rows, byte_coding, zeros}
-use Rattle.model.specs.Log.{Rec, write, parity, Walked, or_else, head_of, cells_of, body_of, cells_for, record_from, record_at, walk_from, walk}
+use Rattle.model.specs.Coding.{Coding, byte_coding, zeros}
+use Rattle.model.specs.Log.{Rec, write, parity, or_else, cells_of, cells_for, record_from, record_at, walk_from, walk}
 use Rattle.model.proofs.State.{used, RecFits, LogFits}
 
 -- the cells from i on are these

@@ -1,12 +1,11 @@
 -- Finishing the newest record.
-use Rattle.std.proofs.Common.{◌≡◌, ℕ, zero, suc, ◌+◌, ◌-◌, ◌*◌, ◌/◌, ◌%◌, ◌<◌, ◌≤◌, Bool, true, false, cond, not, ◌&&◌, eqb, ltb, ◌⊎◌, List, [], ◌∷◌, sym, refl, ap, ◌∙◌, inl, inr, arith}
-use mathlib.Core.Path.{fun_ext}
-use Rattle.std.proofs.lemmas.Bool.{eqb-true, eqb-false, ne_eqb, eq-eqb, cases_order, true≢false, lt-ltb, le-ltb, ltb-false, ltb-true, and_parts, not-true}
+use Rattle.std.proofs.Common.{◌≡◌, ℕ, zero, suc, ◌+◌, ◌<◌, Bool, true, false, cond, not, ◌&&◌, eqb, ltb, List, [], ◌∷◌, sym, refl, ◌∙◌, arith}
+use Rattle.std.proofs.lemmas.Bool.{eq-eqb}
 use Rattle.std.proofs.lemmas.Bool.Decides.{nat_tests}
-use Rattle.model.specs.Coding.{Coding, width}
+use Rattle.model.specs.Coding.{Coding}
 use Rattle.model.specs.Log.{Rec, write, parity}
 use Rattle.model.proofs.Lawful.{Lawful}
-use Rattle.model.proofs.State.{upd, upd2, State, slot, Out, all_done, torn, Op, put, stored, Always, is_good, want, Holds, in_head, HeadRight, LogFits}
+use Rattle.model.proofs.State.{upd2, State, slot, Out, all_done, torn, Op, put, stored, Always, is_good, want, Holds, in_head, HeadRight, LogFits}
 use Rattle.model.proofs.Sums.{unit-r}
 use Rattle.model.proofs.Rows.{want-data, want-row}
 use Rattle.model.proofs.Places.{put-exempt, put_right, apart}

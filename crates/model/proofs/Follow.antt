@@ -1,10 +1,9 @@
 -- The backplane's bytes follow the plan.
-use Rattle.std.proofs.Common.{◌≡◌, ℕ, zero, suc, ◌+◌, ◌-◌, ◌*◌, ◌<◌, ◌≤◌, Bool, true, false, cond, not, ◌&&◌, eqb, ltb, ◌⊎◌, List, [], ◌∷◌, ◌++◌, map, length, sym, refl, ap, ◌∙◌, subst, ap₂, inl, inr, arith}
-use mathlib.Core.Path.{fun_ext}
+use Rattle.std.proofs.Common.{◌≡◌, ℕ, ◌<◌, Bool, true, false, cond, not, ◌&&◌, eqb, ◌⊎◌, List, [], ◌∷◌, length, sym, refl, ap, ◌∙◌, subst, inl, inr, arith}
 use Rattle.std.specs.Str.{bytes_eq}
-use Rattle.std.proofs.lemmas.Bool.{eqb-true, eqb-false, ne_eqb, eq-eqb, true≢false, and_parts}
-use Rattle.backplane.specs.Plane.{Plane, Sector, Store, to_block, to_cell, put as put_at, stored as stored_at, switched, with_block, with_cell}
-use Rattle.backplane.specs.Stores.{stored_all, Cutting, CutBy, place_of}
+use Rattle.std.proofs.lemmas.Bool.{ne_eqb, true≢false}
+use Rattle.backplane.specs.Plane.{Plane, Sector, Store, to_block, to_cell, put as put_at, stored as stored_at, switched, with_cell}
+use Rattle.backplane.specs.Stores.{stored_all, Cutting, CutBy}
 use Rattle.backplane.specs.declared.fault.Place.{Place}
 use Rattle.backplane.specs.declared.fault.Place.TheVariants.{OfBlock, OfCell}
 use Rattle.layout.specs.declared.shape.Shape.{Shape}
@@ -12,12 +11,12 @@ use Rattle.layout.specs.declared.header.Header.{Header}
 use Rattle.layout.specs.Header.{header_bytes}
 use Rattle.layout.proofs.Headers.{same_bytes, bytes_same}
 use Rattle.model.specs.Coding.{Coding}
-use Rattle.model.specs.Log.{Rec, write, parity, cells_for}
-use Rattle.model.specs.Rules.{good_of, to_cells}
-use Rattle.model.proofs.State.{upd, upd2, State, Op, put, note, seal, Out, all_done, torn, stale, fresh, stored, sealed, Always, used}
-use Rattle.model.proofs.Cells.{CellsAt, Encoded, keep}
+use Rattle.model.specs.Log.{Rec}
+use Rattle.model.specs.Rules.{good_of}
+use Rattle.model.proofs.State.{State, Op, put, note, seal, Out, all_done, torn, stale, fresh, stored, sealed, Always, used}
+use Rattle.model.proofs.Cells.{Encoded, keep}
 use Rattle.model.proofs.Block.{Block, pack, pack-bytes, is-sector}
-use Rattle.model.proofs.Bytes.{rec_bytes, log_bytes}
+use Rattle.model.proofs.Bytes.{log_bytes}
 
 -- a cut at this place, where cell 0 is then new or not, is this end of a plan
 abbrev pub OutIs : Out → Place → Bool → Type 0

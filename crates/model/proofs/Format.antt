@@ -1,8 +1,8 @@
 -- A format that is done leaves an array just formatted.
-use Rattle.std.proofs.Common.{◌≡◌, ℕ, zero, suc, ◌+◌, ◌-◌, ◌*◌, ◌<◌, ◌≤◌, Bool, true, false, cond, not, ◌&&◌, eqb, ltb, ◌⊎◌, List, [], ◌∷◌, ◌++◌, map, length, replicate, Some, None, Option, sym, refl, ap, ◌∙◌, subst, ap₂, inl, inr, arith, length-append}
+use Rattle.std.proofs.Common.{◌≡◌, ℕ, zero, suc, ◌+◌, ◌*◌, ◌<◌, ◌≤◌, Bool, true, false, cond, not, ◌&&◌, eqb, ltb, ◌⊎◌, List, [], ◌∷◌, ◌++◌, map, length, replicate, Some, sym, refl, ap, ◌∙◌, subst, ap₂, inl, inr, arith, length-append}
 use Rattle.std.specs.List.{range_with_len, flat_map, AllByRecursion}
 use Rattle.std.proofs.lemmas.List.FromFn.{length-map-range_with_len}
-use Rattle.std.proofs.lemmas.Bool.{eqb-true, eqb-false, eq-eqb, cases_eq, true≢false, ltb-true, ltb-false, lt-ltb, not-true, not-false}
+use Rattle.std.proofs.lemmas.Bool.{eq-eqb, cases_eq, ltb-false, not-false}
 use Rattle.backplane.specs.Plane.{Plane, Sector, Store, to_block, to_cell, stored, switched, put as put_at}
 use Rattle.backplane.specs.Stores.{stored_all}
 use Rattle.backplane.specs.Meaning.{Sound}
@@ -12,12 +12,11 @@ use Rattle.layout.specs.Bytes.{le4}
 use Rattle.layout.specs.Counts.{count}
 use Rattle.layout.specs.Limits.{within_limits}
 use Rattle.layout.specs.Header.{header_bytes, front_bytes}
-use Rattle.layout.proofs.Headers.{Limits, limits_of, length-front_bytes}
+use Rattle.layout.proofs.Headers.{limits_of, length-front_bytes}
 use Rattle.model.specs.Coding.{Coding, byte_coding, zeros}
 use Rattle.model.proofs.Laws.{CodeLaws, laws}
-use Rattle.model.specs.Verdict.{Refusal, Reply, answered, refused, refusal, Answer, done, cut_at, Ends}
-use Rattle.model.specs.Rules.{shape_of, first_header, to_zeros, to_header, formatting}
-use Rattle.model.specs.Runs.{Device}
+use Rattle.model.specs.Verdict.{Refusal, Reply, answered, refused, refusal, done, cut_at}
+use Rattle.model.specs.Rules.{shape_of, first_header, to_zeros, to_header}
 use Rattle.model.specs.Promise.{Formatted, FormatRight}
 use Rattle.model.proofs.Counts.{count_none}
 use Rattle.model.proofs.Block.{none, sector-of}

@@ -1,18 +1,16 @@
 -- Each call's stores keep the invariant, done or cut.
-use Rattle.std.proofs.Common.{◌≡◌, ℕ, zero, suc, ◌+◌, ◌-◌, ◌*◌, ◌/◌, ◌%◌, ◌<◌, ◌≤◌, Bool, true, false, cond, not, ◌&&◌, eqb, ltb, ◌⊎◌, List, [], ◌∷◌, sym, refl, ap, ◌∙◌, subst, inl, inr, mod-lt, arith}
+use Rattle.std.proofs.Common.{◌≡◌, ℕ, suc, ◌+◌, ◌-◌, ◌*◌, ◌%◌, ◌<◌, ◌≤◌, Bool, true, false, cond, ◌&&◌, eqb, ltb, List, [], ◌∷◌, sym, refl, ap, ◌∙◌, subst, mod-lt, arith}
 use mathlib.Core.Path.{fun_ext}
-use Rattle.std.proofs.lemmas.Bool.{eqb-true, eqb-false, ne_eqb, eq-eqb, cases_order, true≢false, lt-ltb, le-ltb, ltb-false, ltb-true, and_parts, and_right, and_from, not-true, not-false}
+use Rattle.std.proofs.lemmas.Bool.{eqb-true, eqb-false, ne_eqb, eq-eqb, true≢false, lt-ltb, le-ltb, ltb-false, ltb-true, and_parts, and_right, and_from}
 use Rattle.layout.specs.declared.header.Header.{Header}
 use Rattle.layout.specs.Stripes.{column_on}
-use Rattle.layout.specs.Counts.{count}
 use Rattle.model.specs.Coding.{Coding, width, check_rows}
 use Rattle.model.specs.Log.{Rec, write, parity, pending, owing, owed}
 use Rattle.model.specs.Row.{settled_with}
 use Rattle.model.proofs.Lawful.{Lawful, word}
-use Rattle.model.proofs.State.{upd, upd2, State, Op, put, note, seal, Out, all_done, torn, stale, fresh, stored, sealed, Always, Book, Array, slot, is_good, is_lost, lost_in, row_of, used, want, in_head, exempt, HeadRight, is_empty, LogFits, Holds, Blocks, Inv}
-use Rattle.model.proofs.Sums.{unit-r}
-use Rattle.model.proofs.Rows.{want-data, want-row, want-write, want-parity, row-right, word-data, word-check, no-debt, want-paid}
-use Rattle.model.proofs.Places.{put-exempt, put_right, column-slot, same, put-lost, same_rest}
+use Rattle.model.proofs.State.{upd, upd2, State, Op, put, note, seal, Out, all_done, torn, stale, fresh, stored, sealed, Always, Book, Array, slot, is_good, lost_in, row_of, used, want, in_head, exempt, HeadRight, is_empty, LogFits, Holds, Blocks, Inv}
+use Rattle.model.proofs.Rows.{want-write, want-parity, row-right, word-data, word-check, want-paid}
+use Rattle.model.proofs.Places.{column-slot, same, put-lost, same_rest}
 use Rattle.model.proofs.Counts.{count_none, count_less, count-false}
 use Rattle.model.proofs.Finish.{finish, finish-always, none, with_blocks}
 

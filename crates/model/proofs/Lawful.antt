@@ -1,5 +1,5 @@
 -- The laws of a code over whole blocks.
-use Rattle.std.proofs.Common.{◌≡◌, ℕ, ◌+◌, ◌-◌, ◌<◌, ◌≤◌, Bool, true, false, cond, ltb}
+use Rattle.std.proofs.Common.{◌≡◌, ℕ, ◌-◌, ◌<◌, ◌≤◌, Bool, false, cond, ltb}
 use Rattle.layout.specs.Counts.{count}
 use Rattle.model.specs.Coding.{Coding, width}
 

@@ -1,6 +1,5 @@
 -- A code over bytes is a code over blocks.
-use Rattle.std.proofs.Common.{◌≡◌, ℕ, zero, suc, ◌+◌, ◌-◌, ◌<◌, ◌≤◌, Bool, true, false, cond, not, ◌&&◌, eqb, ltb, ◌⊎◌, List, [], ◌∷◌, ◌++◌, map, length, get_or, take, replicate, sym, refl, ap, ◌∙◌, subst, ap₂, inl, inr, ⊎_elim, add-zero, add-suc, zero-add, arith, length-take, get_or-take, get_or-append-add, ext_get_or}
-use mathlib.Core.Path.{fun_ext}
+use Rattle.std.proofs.Common.{◌≡◌, ℕ, zero, suc, ◌+◌, ◌-◌, ◌<◌, ◌≤◌, Bool, true, false, cond, not, ◌&&◌, ltb, ◌⊎◌, List, ◌∷◌, map, length, get_or, take, replicate, sym, refl, ap, ◌∙◌, ap₂, inl, inr, add-zero, add-suc, zero-add, arith, length-take, get_or-take, get_or-append-add}
 use lib.ListN.{get_or-append, get_or-eq_default}
 use lib.Bits.{bit_xor}
 use Rattle.std.specs.List.{range_with_len}
@@ -9,10 +8,10 @@ use Rattle.std.proofs.lemmas.Bool.{true≢false, ltb-true, ltb-false, lt-ltb, le
 use Rattle.layout.specs.Bytes.{sum_of}
 use Rattle.layout.specs.Counts.{count}
 use Rattle.model.specs.Coding.{Coding, across, check_bytes, solve_bytes, zeros}
-use Rattle.model.proofs.Laws.{CodeLaws, Low, Agree, coded, lost_place, Solves}
+use Rattle.model.proofs.Laws.{CodeLaws, Low, coded, lost_place, Solves}
 use Rattle.model.proofs.Lawful.{Lawful, word_of}
 use Rattle.model.proofs.Counts.{count_same}
-use Rattle.model.proofs.Block.{Block, byte_at, all_low, is_sector, in_block, low-made, low-at, low-from, sector-from, byte_low, size, block-ext, get_or-sum, plus, none, byte-plus, byte-none, zeros-at, plus_assoc, plus_comm, plus_none, plus-self, pack, pack-bytes}
+use Rattle.model.proofs.Block.{Block, byte_at, is_sector, in_block, low-made, low-at, sector-from, byte_low, block-ext, plus, none, byte-plus, byte-none, zeros-at, plus_assoc, plus_comm, plus_none, plus-self, pack, pack-bytes}
 
 -- counting
 count-split : (a b : ℕ) (f : ℕ → Bool) → count (a + b) f ≡ count a f + count b (λ i. f (a + i))

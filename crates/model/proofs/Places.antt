@@ -1,11 +1,10 @@
 -- Where the columns of a stripe lie, and what one store changes.
-use Rattle.std.proofs.Common.{◌≡◌, ℕ, zero, suc, ◌+◌, ◌-◌, ◌*◌, ◌/◌, ◌%◌, ◌<◌, ◌≤◌, Bool, true, false, cond, not, ◌&&◌, eqb, ltb, ◌⊎◌, List, [], ◌∷◌, sym, refl, ap, ◌∙◌, inl, inr, mod-lt, mod-eq_of_lt, mul-le-mul_left, mul-suc, arith}
-use mathlib.Core.Path.{fun_ext}
+use Rattle.std.proofs.Common.{◌≡◌, ℕ, suc, ◌+◌, ◌-◌, ◌*◌, ◌/◌, ◌%◌, ◌<◌, ◌≤◌, Bool, true, false, cond, not, ◌&&◌, eqb, ◌⊎◌, List, sym, refl, ap, ◌∙◌, inl, inr, mod-lt, mod-eq_of_lt, mul-le-mul_left, mul-suc, arith}
 use native.Mathlib.Nat.{div-add-mod, mod-add-mod, add-mul-mod_self_left}
-use Rattle.std.proofs.lemmas.Bool.{eqb-true, eqb-false, ne_eqb, eq-eqb, cases_order, true≢false}
+use Rattle.std.proofs.lemmas.Bool.{eqb-true, eqb-false, eq-eqb, cases_order, true≢false}
 use Rattle.model.specs.Coding.{Coding, width}
 use Rattle.model.specs.Log.{Rec}
-use Rattle.model.proofs.State.{upd, upd2, slot, want, Holds}
+use Rattle.model.proofs.State.{upd2, slot, want, Holds}
 
 -- two sums with the same remainder whose first parts are below the divisor
 pub same_rest : (n s a b : ℕ) → a < n → b < n → (a + s) % n ≡ (b + s) % n → a ≡ b

@@ -1,12 +1,11 @@
 -- What blocks should hold, and the row.
-use Rattle.std.proofs.Common.{◌≡◌, ℕ, zero, suc, ◌+◌, ◌-◌, ◌*◌, ◌%◌, ◌<◌, ◌≤◌, Bool, true, false, cond, not, ◌&&◌, eqb, ltb, ◌⊎◌, List, [], ◌∷◌, sym, refl, ap, ◌∙◌, inl, inr, arith}
-use mathlib.Core.Path.{fun_ext}
-use Rattle.std.proofs.lemmas.Bool.{eqb-true, eqb-false, not-false, not-true, ltb-true, ltb-false, eq-eqb, lt-ltb, le-ltb, true≢false}
-use Rattle.model.specs.Coding.{Coding, share, width, only}
+use Rattle.std.proofs.Common.{◌≡◌, ℕ, ◌+◌, ◌-◌, ◌<◌, ◌≤◌, Bool, true, false, cond, not, ◌&&◌, eqb, ltb, List, [], ◌∷◌, refl, ap, ◌∙◌, arith}
+use Rattle.std.proofs.lemmas.Bool.{eqb-true, not-false, lt-ltb, le-ltb, true≢false}
+use Rattle.model.specs.Coding.{Coding, share, width}
 use Rattle.model.specs.Log.{Rec, write, parity, debt, pending}
 use Rattle.model.specs.Row.{settled_with, raw}
-use Rattle.model.proofs.Lawful.{Lawful, word, word_of}
-use Rattle.model.proofs.State.{upd, upd2, State, want, in_head, Holds, is_good, is_lost, lost_in, row_of, slot}
+use Rattle.model.proofs.Lawful.{Lawful, word}
+use Rattle.model.proofs.State.{upd2, State, want, in_head, is_good, is_lost, lost_in, row_of, slot}
 use Rattle.model.proofs.Sums.{left_comm, unit-r, twice, twice-r, check-upd}
 
 module _ {B : Type 0} (K : Coding B) (L : Lawful K) where

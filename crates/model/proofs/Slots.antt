@@ -1,29 +1,28 @@
 -- Pull, fit, rebuild and start keep what is true between calls.
-use Rattle.std.proofs.Common.{◌≡◌, ℕ, zero, suc, ◌+◌, ◌-◌, ◌*◌, ◌/◌, ◌%◌, ◌<◌, ◌≤◌, Bool, true, false, cond, not, ◌&&◌, eqb, ltb, leb, ◌⊎◌, List, [], ◌∷◌, ◌++◌, length, get_or, set, Some, None, Option, sym, refl, ap, ◌∙◌, subst, ap₂, inl, inr, mod-lt, arith, length-set, get_or-set_other, get_or-set_same}
-use mathlib.Core.Path.{fun_ext}
-use Rattle.std.proofs.lemmas.Bool.{eqb-true, eqb-false, eq-eqb, true≢false, ltb-true, ltb-false, lt-ltb, not-true, not-false}
+use Rattle.std.proofs.Common.{◌≡◌, ℕ, ◌+◌, ◌-◌, ◌*◌, ◌<◌, ◌≤◌, Bool, true, false, cond, not, eqb, ltb, ◌⊎◌, List, [], ◌∷◌, length, get_or, set, Some, None, sym, refl, ap, ◌∙◌, subst, ap₂, inl, inr, arith, length-set, get_or-set_other, get_or-set_same}
+use Rattle.std.proofs.lemmas.Bool.{eqb-true, eqb-false, true≢false, ltb-true, not-false}
 use Rattle.backplane.specs.Plane.{Plane, Sector, Store, to_block, to_cell, fitted, pulled, switched, put as put_at}
 use Rattle.layout.specs.declared.header.Header.{Header}
 use Rattle.layout.specs.Limits.{within_limits}
-use Rattle.layout.specs.Header.{header_bytes, header_in, is_laid_out, with_good}
+use Rattle.layout.specs.Header.{header_bytes, is_laid_out, with_good}
 use Rattle.layout.specs.Stripes.{column_on}
 use Rattle.model.specs.Coding.{Coding}
 use Rattle.model.proofs.Laws.{CodeLaws}
-use Rattle.model.specs.Log.{Rec, Walked, or_else, walk, owed}
+use Rattle.model.specs.Log.{Rec, Walked, walk, owed}
 use Rattle.model.specs.Row.{settled_with}
-use Rattle.model.specs.Verdict.{Refusal, Reply, answered, refused, refusal, cut_at, Answer, done, of_number, Verdict, guard, make, nothing, fits, pulls, Ends}
-use Rattle.model.specs.Rules.{Call, Pull, Fit, Rebuild, Start, good_of, shape_of, verdict, fit_open, rebuild_open, start_open, rebuilt, lost_refusal, to_header, is_there, finish_last}
-use Rattle.model.specs.Rules.{log_of as log_r, is_good as is_good_r, lost_in as lost_in_r, row_of as row_r}
+use Rattle.model.specs.Verdict.{Refusal, Reply, answered, refused, refusal, cut_at, done, of_number, make, nothing, Ends}
+use Rattle.model.specs.Rules.{Pull, Fit, Rebuild, Start, good_of, shape_of, verdict, fit_open, rebuild_open, start_open, rebuilt, lost_refusal, to_header, is_there, finish_last}
+use Rattle.model.specs.Rules.{log_of as log_r, is_good as is_good_r, lost_in as lost_in_r}
 use Rattle.model.specs.Ledger.{Ledger, counted, stopped, with_at, feed}
 use Rattle.model.specs.Runs.{Device, StartRight}
-use Rattle.model.proofs.State.{upd, upd2, State, Op, put, seal, sealed, Out, Always, Book, is_good, lost_in, row_of, used, Inv}
+use Rattle.model.proofs.State.{upd, State, Op, put, seal, sealed, Book, is_good, lost_in, row_of}
 use Rattle.model.proofs.Block.{Block, none, pack, pack-bytes, is-sector}
 use Rattle.model.proofs.Lift.{lawful}
-use Rattle.model.proofs.Bytes.{rec_bytes, log_bytes, owed_same, settled_same}
+use Rattle.model.proofs.Bytes.{log_bytes, owed_same, settled_same}
 use Rattle.model.proofs.Finish.{finish}
-use Rattle.model.proofs.Keeps.{array, slotted, Ended, stopped_b, started_b, good_b, live_b, pull-keeps, fit-keeps, plug-keeps, rebuild-keeps, start-keeps}
-use Rattle.model.proofs.Follow.{stores, Repr, Ready, head_after, is_other, seal-like, switch-like}
-use Rattle.model.proofs.World.{KA, KL, sh, Same, World, refused-still, shape_is, used-is, laid_out, walked, log_is, goods-is, missing-is, row_is, finish-stores, finish-ready, made, made-cut}
+use Rattle.model.proofs.Keeps.{slotted, stopped_b, started_b, good_b, live_b, pull-keeps, fit-keeps, plug-keeps, rebuild-keeps, start-keeps}
+use Rattle.model.proofs.Follow.{stores, Repr, is_other, seal-like, switch-like}
+use Rattle.model.proofs.World.{sh, refused-still, shape_is, used-is, laid_out, walked, goods-is, row_is, finish-stores, finish-ready, made, made-cut}
 use Rattle.model.proofs.Steps.{A, B, shape, Wd, Sm, open-cases, inv-on, stop-same, head-finish, few-lost, the-log}
 
 module _ (number rows : ℕ) (check : ℕ → List ℕ → ℕ) (solved : ℕ → List ℕ → List Bool → List ℕ) (W : CodeLaws number rows check solved)

@@ -1,8 +1,7 @@
 -- The array's state as the log names it, what a plan of stores may leave of it, and the invariant between calls.
-use Rattle.std.proofs.Common.{◌≡◌, ℕ, zero, suc, ◌+◌, ◌-◌, ◌*◌, ◌<◌, ◌≤◌, Bool, true, false, cond, not, ◌&&◌, eqb, ltb, List, [], ◌∷◌}
+use Rattle.std.proofs.Common.{◌≡◌, ℕ, ◌+◌, ◌-◌, ◌*◌, ◌<◌, ◌≤◌, Bool, true, false, cond, not, ◌&&◌, eqb, ltb, List, [], ◌∷◌}
 use Rattle.layout.specs.declared.header.Header.{Header}
 use Rattle.layout.specs.Stripes.{slot_of}
-use Rattle.layout.specs.Counts.{count}
 use Rattle.model.specs.Coding.{Coding, width, check_rows}
 use Rattle.model.specs.Log.{Rec, write, parity, cells_of, owed}
 use Rattle.model.specs.Row.{good_at, lost_at, missing, settled_with, row}

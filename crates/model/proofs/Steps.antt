@@ -1,8 +1,8 @@
 -- Write, fold and clear keep what is true between calls.
-use Rattle.std.proofs.Common.{◌≡◌, ℕ, zero, suc, ◌+◌, ◌-◌, ◌*◌, ◌/◌, ◌%◌, ◌<◌, ◌≤◌, Bool, true, false, cond, not, ◌&&◌, eqb, ltb, leb, ◌⊎◌, List, [], ◌∷◌, ◌++◌, length, get_or, Some, None, Option, sym, refl, ap, ◌∙◌, subst, ap₂, inl, inr, mod-lt, div-lt_iff_lt-mul, mul-le-mul_left, arith}
+use Rattle.std.proofs.Common.{◌≡◌, ℕ, zero, suc, ◌+◌, ◌-◌, ◌*◌, ◌/◌, ◌%◌, ◌<◌, ◌≤◌, Bool, true, false, cond, ◌&&◌, eqb, ltb, ◌⊎◌, List, [], ◌∷◌, ◌++◌, length, Some, None, sym, refl, ap, ◌∙◌, subst, ap₂, inl, inr, mod-lt, div-lt_iff_lt-mul, mul-le-mul_left, arith}
 use mathlib.Core.Path.{fun_ext}
-use Rattle.std.proofs.lemmas.Bool.{eqb-true, eqb-false, true≢false, ltb-true, ltb-false, not-true, not-false, and_parts}
-use Rattle.backplane.specs.Plane.{Plane, Sector, Store, to_block, to_cell}
+use Rattle.std.proofs.lemmas.Bool.{eqb-true, ltb-true, ltb-false, not-false, and_parts}
+use Rattle.backplane.specs.Plane.{Plane, Sector, Store, to_cell}
 use Rattle.layout.specs.declared.header.Header.{Header}
 use Rattle.layout.specs.Limits.{within_limits}
 use Rattle.layout.specs.Header.{header_bytes, with_used}
@@ -10,19 +10,19 @@ use Rattle.layout.specs.Stripes.{stripe_of, column_of}
 use Rattle.layout.proofs.Counting.{count-some}
 use Rattle.model.specs.Coding.{Coding, check_rows, zeros}
 use Rattle.model.proofs.Laws.{CodeLaws, Low}
-use Rattle.model.specs.Log.{Rec, write, parity, cells_of, cells_for, owed, owing, pending}
-use Rattle.model.specs.Verdict.{Reply, answered, refused, refusal, Answer, done, of_number, Verdict, refuse, guard, make, nothing, Ends}
-use Rattle.model.specs.Rules.{Call, Write, Read, Fold, Clear, good_of, opened, if_open, shape_of, to_cells, verdict, written, folded, write_open, fold_open, clear_open, lost_refusal, to_header, past_repair, too_full}
-use Rattle.model.specs.Rules.{log_of as log_r, is_good as is_good_r, lost_in as lost_in_r, row_of as row_r, finish as finish_r, append as append_r, grown as grown_r}
+use Rattle.model.specs.Log.{Rec, write, parity, cells_for, owed, owing, pending}
+use Rattle.model.specs.Verdict.{Reply, answered, refused, refusal, Answer, done, of_number, Verdict, make, nothing, Ends}
+use Rattle.model.specs.Rules.{Call, Write, Fold, Clear, opened, if_open, to_cells, verdict, written, folded, write_open, fold_open, clear_open, lost_refusal, to_header, past_repair}
+use Rattle.model.specs.Rules.{log_of as log_r, is_good as is_good_r, finish as finish_r, append as append_r, grown as grown_r}
 use Rattle.model.specs.Ledger.{Ledger, counted, stopped, with_at, feed}
 use Rattle.model.specs.Runs.{Device}
 use Rattle.model.proofs.State.{upd, upd2, State, Op, seal, Out, Always, Book, is_good, lost_in, row_of, used, Inv}
 use Rattle.model.proofs.Block.{Block, in_block, sector-from, low-from, none}
 use Rattle.model.proofs.Lift.{lawful}
-use Rattle.model.proofs.Bytes.{rec_bytes, log_bytes, owed_same, owing-same, used-same, cond-bytes}
+use Rattle.model.proofs.Bytes.{rec_bytes, log_bytes, owed_same, owing-same, cond-bytes}
 use Rattle.model.proofs.Finish.{finish, checks_from}
 use Rattle.model.proofs.Keeps.{array, notes, append, Ended, stopped_b, wrote_b, cleared_b, write_keeps, fold-keeps, clear-keeps}
-use Rattle.model.proofs.Follow.{stores, Repr, Ready, head_after, is_other}
+use Rattle.model.proofs.Follow.{stores, head_after, is_other}
 use Rattle.model.proofs.World.{KA, KL, sh, Same, World, same_number, refused-still, shape_is, used-is, opened-is, log_is, goods-is, missing-is, row_is, finish-stores, notes-stores, append-ready, made}
 
 module _ (number rows : ℕ) (check : ℕ → List ℕ → ℕ) (solved : ℕ → List ℕ → List Bool → List ℕ) (W : CodeLaws number rows check solved)

@@ -1,8 +1,8 @@
 -- Sums of blocks, and the check of a row in which one block changes.
-use Rattle.std.proofs.Common.{◌≡◌, ℕ, zero, suc, ◌+◌, ◌-◌, ◌<◌, ◌≤◌, Bool, true, false, cond, eqb, ltb, sym, refl, ap, ◌∙◌, arith}
+use Rattle.std.proofs.Common.{◌≡◌, ℕ, Bool, true, false, cond, eqb, sym, refl, ap, ◌∙◌}
 use mathlib.Core.Path.{fun_ext}
 use Rattle.std.proofs.lemmas.Bool.{eqb-true}
-use Rattle.model.specs.Coding.{Coding, share, width, only}
+use Rattle.model.specs.Coding.{Coding, share, only}
 use Rattle.model.proofs.Lawful.{Lawful}
 use Rattle.model.proofs.State.{upd}
 

@@ -1,37 +1,34 @@
 -- The promise: reads, disks, and every run.
-use Rattle.std.proofs.Common.{◌≡◌, ℕ, zero, suc, ◌+◌, ◌-◌, ◌*◌, ◌/◌, ◌%◌, ◌<◌, ◌≤◌, Bool, true, false, cond, not, ◌&&◌, eqb, ltb, leb, ◌⊎◌, List, [], ◌∷◌, ◌++◌, map, length, get_or, Some, None, Option, sym, refl, ap, ◌∙◌, subst, ap₂, inl, inr, ⊎_elim, mod-lt, mul_comm, div-lt_iff_lt-mul, zero-add, arith}
+use Rattle.std.proofs.Common.{◌≡◌, ℕ, ◌+◌, ◌-◌, ◌*◌, ◌/◌, ◌%◌, ◌<◌, ◌≤◌, Bool, true, false, cond, not, ◌&&◌, eqb, ltb, ◌⊎◌, List, [], ◌∷◌, ◌++◌, map, length, get_or, sym, refl, ap, ◌∙◌, subst, ap₂, inl, inr, ⊎_elim, mod-lt, mul_comm, div-lt_iff_lt-mul, zero-add, arith}
 use mathlib.Core.Path.{fun_ext}
 use native.Mathlib.Nat.{div-add-mod}
 use lib.ListN.{get_or-eq_default}
 use Rattle.std.specs.List.{range_with_len}
 use Rattle.std.proofs.lemmas.List.FromFn.{get_or-map-range_with_len, length-map-range_with_len}
-use Rattle.std.proofs.lemmas.Bool.{eqb-true, eqb-false, eq-eqb, true≢false, ltb-true, ltb-false, lt-ltb, le-ltb, not-true, not-false, and_parts, and_cases, and_from}
+use Rattle.std.proofs.lemmas.Bool.{eqb-false, true≢false, ltb-true, ltb-false, not-true, not-false, and_parts, and_cases}
 use Rattle.backplane.specs.Plane.{Plane, Sector}
-use Rattle.layout.specs.declared.shape.Shape.{Shape}
-use Rattle.layout.specs.declared.header.Header.{Header}
 use Rattle.layout.specs.Limits.{within_limits}
 use Rattle.layout.specs.Stripes.{stripe_of, column_of, slot_of}
 use Rattle.layout.proofs.Headers.{Limits, limits_of}
 use Rattle.model.specs.Coding.{Coding, byte_coding, zeros, check_bytes}
 use Rattle.model.proofs.Laws.{CodeLaws, laws}
-use Rattle.model.specs.Log.{Rec, debt, owed, owing}
-use Rattle.model.specs.Verdict.{Refusal, Reply, answered, refused, refusal, cut_at, Answer, done, of_block, of_number, Verdict, guard, make, nothing, Ends}
+use Rattle.model.specs.Log.{Rec, debt}
+use Rattle.model.specs.Verdict.{Refusal, Reply, answered, refused, refusal, Answer, of_block, Ends}
 use Rattle.model.specs.Rules.{Call, Write, Read, Fold, Clear, Pull, Fit, Rebuild, Start, good_of, shape_of, first_header, verdict, read_open, lost_refusal, past_repair}
 use Rattle.model.specs.Rules.{is_good as is_good_r, is_lost as is_lost_r, lost_in as lost_in_r, row_of as row_r}
 use Rattle.model.specs.Ledger.{Ledger, feed, opening}
-use Rattle.model.specs.Runs.{Device, Event, fed_all, Called, Ran, Given, is_new, good_in, missing_in, ReadRight, ReplyRight, RepliesRight, DisksRight}
-use Rattle.model.specs.Promise.{Formatted, Kept, Promise}
-use Rattle.model.proofs.Lawful.{word}
-use Rattle.model.proofs.State.{State, Book, slot, is_good, lost_in, row_of, want, is_empty, Inv}
+use Rattle.model.specs.Runs.{Device, Event, fed_all, Called, Ran, Given, good_in, missing_in, ReadRight, ReplyRight, RepliesRight, DisksRight}
+use Rattle.model.specs.Promise.{Formatted, Promise}
+use Rattle.model.proofs.State.{State, is_good, lost_in, is_empty, Inv}
 use Rattle.model.proofs.Sums.{unit-r}
 use Rattle.model.proofs.Rows.{want-data, want-row, word-data}
 use Rattle.model.proofs.Counts.{count-false}
 use Rattle.model.proofs.Block.{Block, none}
 use Rattle.model.proofs.Lift.{lawful, map_same}
 use Rattle.model.proofs.Keeps.{array, stopped_b, plain, row_is as row-right}
-use Rattle.model.proofs.Follow.{Repr, is_other}
-use Rattle.model.proofs.World.{KA, KL, sh, Same, World, refused-still, block-is, row_is, goods-is, missing-is, lost-is, made}
-use Rattle.model.proofs.Steps.{A, B, shape, Wd, Sm, open-cases, inv-on, stop-same, write_step, fold_step, clear_step}
+use Rattle.model.proofs.Follow.{is_other}
+use Rattle.model.proofs.World.{KA, sh, World, refused-still, block-is, row_is, goods-is, missing-is, lost-is, made}
+use Rattle.model.proofs.Steps.{A, B, Wd, Sm, open-cases, inv-on, stop-same, write_step, fold_step, clear_step}
 use Rattle.model.proofs.Slots.{pull-step, fit-step, rebuild-step, start-step}
 
 module _ (number rows : ℕ) (check : ℕ → List ℕ → ℕ) (solved : ℕ → List ℕ → List Bool → List ℕ) (W : CodeLaws number rows check solved)

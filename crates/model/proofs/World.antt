@@ -1,10 +1,9 @@
 -- What is true of the array, its backplane and the ledger between calls, and what follows for the rules.
-use Rattle.std.proofs.Common.{◌≡◌, ℕ, zero, suc, ◌+◌, ◌-◌, ◌*◌, ◌/◌, ◌%◌, ◌<◌, ◌≤◌, Bool, true, false, cond, not, ◌&&◌, eqb, ltb, leb, ◌⊎◌, List, [], ◌∷◌, ◌++◌, map, length, get_or, Some, None, Option, sym, refl, ap, ◌∙◌, subst, ap₂, inl, inr, mod-lt, mul_comm, mul-le-mul_left, mul-suc, arith}
+use Rattle.std.proofs.Common.{◌≡◌, ℕ, zero, suc, ◌+◌, ◌-◌, ◌*◌, ◌/◌, ◌%◌, ◌<◌, ◌≤◌, Bool, true, false, cond, ◌&&◌, eqb, ltb, leb, ◌⊎◌, List, [], ◌∷◌, ◌++◌, length, get_or, Some, None, Option, sym, refl, ap, ◌∙◌, subst, ap₂, inl, inr, mod-lt, mul_comm, mul-le-mul_left, mul-suc, arith}
 use mathlib.Core.Path.{fun_ext}
 use native.Mathlib.Nat.{div-add-mod}
-use Rattle.std.specs.List.{range_with_len}
-use Rattle.std.proofs.lemmas.Bool.{eqb-true, eqb-false, ne_eqb, eq-eqb, cases_order, cases_Bool, true≢false, lt-ltb, le-ltb, le-leb, ltb-true, ltb-false, and_parts, and_from, and_right, and_left, not-true, not-false}
-use Rattle.backplane.specs.Plane.{Plane, Sector, Store, to_block, to_cell, switched, with_cell}
+use Rattle.std.proofs.lemmas.Bool.{eqb-true, eqb-false, ne_eqb, eq-eqb, cases_order, true≢false, le-leb, ltb-false, and_parts, and_from, not-false}
+use Rattle.backplane.specs.Plane.{Plane, Sector, Store, to_block, to_cell, with_cell}
 use Rattle.backplane.specs.Plane.{stored as stored_at}
 use Rattle.backplane.specs.Stores.{stored_all, Cutting}
 use Rattle.backplane.specs.declared.fault.Place.{Place}
@@ -12,26 +11,25 @@ use Rattle.backplane.specs.declared.fault.Place.TheVariants.{OfBlock, OfCell}
 use Rattle.layout.specs.declared.shape.Shape.{Shape}
 use Rattle.layout.specs.declared.header.Header.{Header}
 use Rattle.layout.specs.Limits.{within_limits}
-use Rattle.layout.specs.Header.{header_bytes, header_in, header_fits, goods_fit, is_laid_out}
+use Rattle.layout.specs.Header.{header_in, header_fits, goods_fit, is_laid_out}
 use Rattle.layout.specs.Stripes.{slot_of}
 use Rattle.layout.proofs.Headers.{Limits, limits_of, encoded-back}
-use Rattle.model.specs.Coding.{Coding, width, byte_coding}
+use Rattle.model.specs.Coding.{Coding}
 use Rattle.model.proofs.Laws.{CodeLaws}
-use Rattle.model.specs.Log.{Rec, write, parity, Walked, walk, owed, owing, cells_of, body_of, cells_for}
+use Rattle.model.specs.Log.{Rec, write, parity, Walked, walk, cells_for}
 use Rattle.model.specs.Row.{good_at, lost_at, missing, row}
-use Rattle.model.specs.Verdict.{Refusal, Reply, answered, refused, Answer, cut_at, Verdict, guard, make, nothing, Last, Ends}
-use Rattle.model.specs.Rules.{Call, Write, Read, Fold, Clear, Pull, Fit, Rebuild, Start, good_of, opened, if_open, shape_of, to_cells}
-use Rattle.model.specs.Rules.{log_of as log_r, is_good as is_good_r, is_lost as is_lost_r, lost_in as lost_in_r, row_of as row_r, finish as finish_r, to_checks as to_checks_r, finish_last as finish_last_r}
-use Rattle.model.specs.Ledger.{Ledger, counted, stopped, is_write, feed, counts, stops, with_at}
+use Rattle.model.specs.Verdict.{Refusal, Reply, answered, refused, Answer, cut_at, make, nothing, Ends}
+use Rattle.model.specs.Rules.{Call, good_of, opened, shape_of, to_cells}
+use Rattle.model.specs.Rules.{log_of as log_r, is_good as is_good_r, is_lost as is_lost_r, lost_in as lost_in_r, row_of as row_r, to_checks as to_checks_r, finish_last as finish_last_r}
+use Rattle.model.specs.Ledger.{Ledger, counted, stopped, is_write, feed, stops}
 use Rattle.model.specs.Runs.{Device}
-use Rattle.model.proofs.Lawful.{Lawful, word}
-use Rattle.model.proofs.State.{upd, upd2, State, Op, put, note, seal, Out, all_done, torn, stale, fresh, Always, Book, Array, slot, is_good, is_lost, lost_in, row_of, used, exempt, LogFits, Inv}
+use Rattle.model.proofs.State.{State, Op, put, seal, Out, all_done, torn, stale, fresh, Always, Book, slot, is_good, is_lost, lost_in, row_of, used, LogFits, Inv}
 use Rattle.model.proofs.Block.{Block}
-use Rattle.model.proofs.Bytes.{KB, Kb, rec_bytes, log_bytes, row_same, fits-same, used-same, owed_same, cells_same}
+use Rattle.model.proofs.Bytes.{KB, Kb, rec_bytes, log_bytes, row_same, fits-same, used-same}
 use Rattle.model.proofs.Cells.{CellsAt, Encoded, walk_is, keep}
 use Rattle.model.proofs.Finish.{finish, checks_from}
-use Rattle.model.proofs.Keeps.{Ended, array, stopped_b, wrote_b, notes, append}
-use Rattle.model.proofs.Follow.{store, stores, Repr, Ready, head_after, OutIs, is_other, follow-done, follow-cut, switch-like}
+use Rattle.model.proofs.Keeps.{Ended, array, notes, append}
+use Rattle.model.proofs.Follow.{stores, Repr, Ready, head_after, OutIs, is_other, follow-done, follow-cut}
 
 -- quotient and rest are unique
 pub split-unique : (k q r q' r' : ℕ) → r < k → r' < k → k * q + r ≡ k * q' + r' → (q ≡ q') × (r ≡ r')

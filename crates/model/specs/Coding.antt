@@ -1,5 +1,5 @@
 -- A code as the rules use it: its sizes and its operations on whole blocks. `B` is what stands in a block or a cell.
-use Rattle.std.specs.Prelude.{ℕ, ◌+◌, ◌-◌, Bool, cond, List, map, replicate, ◌==◌, nat_lt, slice_index}
+use Rattle.std.specs.Prelude.{ℕ, ◌+◌, Bool, cond, List, map, replicate, ◌==◌, nat_lt, slice_index}
 use Rattle.std.specs.List.{range_with_len}
 use Rattle.layout.specs.Bytes.{sum_of}
 

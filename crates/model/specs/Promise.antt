@@ -1,15 +1,14 @@
 -- The promise of the array, over every run and every power cut.
-use Rattle.std.specs.Prelude.{◌≡◌, ℕ, ◌+◌, ◌<◌, Bool, true, List, [], Some, None, Option}
-use Rattle.backplane.specs.Plane.{Plane, Sector}
-use Rattle.backplane.specs.Meaning.{Bytes, Sound}
-use Rattle.layout.specs.declared.header.Header.{Header}
+use Rattle.std.specs.Prelude.{◌≡◌, ℕ, ◌<◌, Bool, true, List, [], Some}
+use Rattle.backplane.specs.Plane.{Sector}
+use Rattle.backplane.specs.Meaning.{Sound}
 use Rattle.layout.specs.Limits.{within_limits}
 use Rattle.layout.specs.Header.{header_bytes}
-use Rattle.model.specs.Coding.{Coding, byte_coding, zeros}
+use Rattle.model.specs.Coding.{Coding, byte_coding}
 use Rattle.model.specs.ByteLaws.{ByteLaws}
-use Rattle.model.specs.Verdict.{Answer, done, answered, Ends}
+use Rattle.model.specs.Verdict.{done, answered, Ends}
 use Rattle.model.specs.Rules.{first_header, shape_of, formatting}
-use Rattle.model.specs.Ledger.{Ledger, opening}
+use Rattle.model.specs.Ledger.{opening}
 use Rattle.model.specs.Runs.{Device, Event, fed_all, Ran, RepliesRight, DisksRight}
 
 -- an array just formatted: the sizes are within the limits, the power is on, all slots are live, all blocks are zeros,

@@ -1,5 +1,5 @@
 -- Good and lost columns, and the row of a stripe.
-use Rattle.std.specs.Prelude.{ℕ, ◌+◌, ◌-◌, Bool, true, false, cond, not, ◌&&◌, List, nat_lt}
+use Rattle.std.specs.Prelude.{ℕ, ◌-◌, Bool, cond, not, ◌&&◌, List, nat_lt}
 use Rattle.layout.specs.Stripes.{slot_of}
 use Rattle.layout.specs.Counts.{count}
 use Rattle.model.specs.Coding.{Coding, width}

@@ -1,5 +1,5 @@
 -- The rules: what each call refuses, lowest number first, what it stores, in order, and what it answers.
-use Rattle.std.specs.Prelude.{ℕ, zero, suc, ◌+◌, ◌-◌, ◌*◌, ◌/◌, ◌%◌, Bool, true, false, cond, not, ◌&&◌, List, [], ◌∷◌, ◌++◌, map, length, Some, None, Option, ◌==◌, nat_lt, slice_index}
+use Rattle.std.specs.Prelude.{ℕ, zero, suc, ◌+◌, ◌-◌, ◌*◌, Bool, true, false, cond, not, ◌&&◌, List, [], ◌∷◌, ◌++◌, map, length, Some, None, Option, ◌==◌, nat_lt, slice_index}
 use Rattle.std.specs.List.{range_with_len, flat_map}
 use Rattle.backplane.specs.Plane.{Plane, Store, to_block, to_cell}
 use Rattle.layout.specs.declared.shape.Shape.{Shape}
@@ -9,9 +9,9 @@ use Rattle.layout.specs.Header.{header_bytes, header_in, header_fits, is_laid_ou
 use Rattle.layout.specs.Stripes.{stripe_of, column_of, slot_of, column_on}
 use Rattle.layout.specs.Counts.{count, lowest}
 use Rattle.model.specs.Coding.{Coding, width, check_rows}
-use Rattle.model.specs.Log.{Rec, write, parity, Walked, or_else, cells_of, cells_for, walk, pending, owing, owed}
+use Rattle.model.specs.Log.{Rec, write, parity, or_else, cells_of, cells_for, walk, pending, owing, owed}
 use Rattle.model.specs.Row.{good_at, lost_at, missing, settled_with, row}
-use Rattle.model.specs.Verdict.{Refusal, refusal, Answer, done, of_block, of_number, Last, nothing, fits, pulls, Verdict, refuse, guard, power_up, make}
+use Rattle.model.specs.Verdict.{Refusal, refusal, done, of_block, of_number, nothing, fits, pulls, Verdict, refuse, guard, power_up, make}
 
 -- the calls that a formatted array takes, with their arguments; the last number is the length of the work area
 pub data Call (B : Type 0) : Type 0 where

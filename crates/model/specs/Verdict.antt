@@ -1,5 +1,5 @@
 -- What a call comes to: a refusal, or stores in their order with the answer; and how it then goes.
-use Rattle.std.specs.Prelude.{◌≡◌, ℕ, ◌<◌, Bool, true, false, cond, ◌⊎◌, List, [], ◌∷◌, Some, None, Option, ◌==◌}
+use Rattle.std.specs.Prelude.{◌≡◌, ℕ, ◌<◌, Bool, true, false, cond, ◌⊎◌, List, [], ◌∷◌, None, Option, ◌==◌}
 use Rattle.backplane.specs.Plane.{Plane, Store, switched, fitted, pulled}
 use Rattle.backplane.specs.Stores.{stored_all, Cutting}
 use Rattle.backplane.specs.declared.fault.Place.{Place}

@@ -1,5 +1,5 @@
 -- Marks and pending records, one record on, and counts of them.
-use Rattle.std.proofs.Common.{◌≡◌, ℕ, zero, suc, ◌+◌, ◌*◌, ◌/◌, ◌%◌, ◌^◌, ◌<◌, ◌≤◌, Bool, true, false, cond, eqb, ltb, List, [], ◌∷◌, length, get_or, replicate, Some, None, Option, sym, refl, ap, ◌∙◌, ap₂, inl, inr, zero-add, arith}
+use Rattle.std.proofs.Common.{◌≡◌, ℕ, zero, suc, ◌+◌, ◌/◌, ◌%◌, ◌^◌, ◌<◌, Bool, true, false, cond, eqb, ltb, List, ◌∷◌, get_or, replicate, Some, None, refl, ap, ◌∙◌, ap₂, inl, inr, zero-add, arith}
 use native.Mathlib.Nat.{zero-div}
 use Rattle.std.proofs.lemmas.List.{get_or-replicate, get_or_past, length-replicate}
 use Rattle.std.proofs.lemmas.Bool.{cases_lt, lt-ltb}
@@ -11,7 +11,7 @@ use Rattle.layout.specs.declared.head.Head.{Head}
 use Rattle.layout.specs.declared.head.Head.TheVariants.{OfWrite, OfParity}
 use Rattle.layout.specs.Counts.{count, lowest}
 use Rattle.model.specs.Coding.{Coding}
-use Rattle.model.specs.Log.{Rec, write, parity, record_from, pending, owing, owed}
+use Rattle.model.specs.Log.{Rec, write, record_from, pending, owing}
 use Rattle.parity_log.specs.Pending.{owing_after, lowest_owing, MarksOwing}
 
 get_or-zeros : (n i : ℕ) → ◌≡◌ {A = ℕ} (get_or (replicate n 0) i 0) 0

@@ -1,11 +1,10 @@
 -- Where the pending records of a stripe begin, one record on, and what they are.
-use Rattle.std.proofs.Common.{◌≡◌, ℕ, zero, suc, ◌+◌, ◌-◌, ◌<◌, ◌≤◌, Bool, true, false, cond, eqb, ltb, List, [], ◌∷◌, ◌++◌, Some, None, Option, sym, refl, ap, ◌∙◌, subst, add_assoc, arith}
+use Rattle.std.proofs.Common.{◌≡◌, ℕ, ◌+◌, ◌≤◌, Bool, true, false, cond, eqb, List, [], ◌∷◌, ◌++◌, Some, None, Option, sym, refl, ap, ◌∙◌, add_assoc, arith}
 use Rattle.std.proofs.lemmas.List.{append_cancel_right}
 use Rattle.backplane.specs.Plane.{Plane}
 use Rattle.layout.specs.declared.head.Head.{Head}
 use Rattle.layout.specs.declared.head.Head.TheVariants.{OfWrite, OfParity}
-use Rattle.layout.specs.Head.{record_cells}
-use Rattle.model.specs.Coding.{Coding, share, check_rows}
+use Rattle.model.specs.Coding.{Coding, check_rows}
 use Rattle.model.specs.Log.{Rec, write, parity, record_from, walk, pending, debt}
 use Rattle.parity_log.specs.Pending.{writes_of, is_write_of}
 use Rattle.parity_log.specs.Walks.{head_at, parity_at, NoParity, resume_at, Resumes}

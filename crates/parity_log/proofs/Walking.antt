@@ -1,5 +1,5 @@
 -- The walk over the log, one record on.
-use Rattle.std.proofs.Common.{◌≡◌, ℕ, zero, suc, ◌+◌, ◌-◌, ◌<◌, ◌≤◌, Bool, true, false, cond, ◌&&◌, eqb, ltb, leb, List, [], ◌∷◌, ◌++◌, length, Some, None, Ok, Err, Option, Result, sym, refl, ap, ◌∙◌, arith}
+use Rattle.std.proofs.Common.{◌≡◌, ℕ, zero, suc, ◌+◌, ◌-◌, ◌<◌, ◌≤◌, Bool, true, false, cond, ◌&&◌, eqb, ltb, leb, List, [], ◌∷◌, length, Some, None, Ok, Err, Option, sym, refl, ap, ◌∙◌, arith}
 use Rattle.std.proofs.lemmas.Bool.{lt-ltb, le-ltb, leb-true}
 use Rattle.backplane.specs.Plane.{Plane, to_cell}
 use Rattle.backplane.specs.Meaning.{Bytes, fault_of}
@@ -8,9 +8,8 @@ use Rattle.layout.specs.declared.head.Head.{Head}
 use Rattle.layout.specs.declared.head.Head.TheVariants.{OfWrite, OfParity}
 use Rattle.layout.specs.Head.{head_in, record_cells}
 use Rattle.model.specs.Coding.{Coding}
-use Rattle.model.specs.Log.{Rec, write, parity, Walked, or_else, head_of, cells_of, record_from, record_at, walk_from, walk}
+use Rattle.model.specs.Log.{Rec, Walked, or_else, head_of, cells_of, record_from, record_at, walk_from, walk}
 use Rattle.parity_log.specs.Walks.{head_at, fold_from, last_head, walk_end, LastAt}
-use Rattle.faults.specs.declared.fault.LogFault.{LogFault}
 use Rattle.faults.specs.declared.fault.LogFault.TheVariants.{Damaged}
 
 pub cells-some : (rows : ℕ) (h : Head) → 1 ≤ record_cells rows h

@@ -1,5 +1,5 @@
 -- The fault of a log whose cells cannot be read.
-use Rattle.std.specs.Prelude.{Some, None, Ok, Err, Option, Result}
+use Rattle.std.specs.Prelude.{Some, None, Err, Option, Result}
 use Rattle.backplane.specs.declared.fault.BackplaneFault.{BackplaneFault}
 use Rattle.faults.specs.declared.fault.LogFault.{LogFault}
 use Rattle.faults.specs.declared.fault.LogFault.TheVariants.{AtCell}

@@ -1,11 +1,11 @@
 -- The walk over the log by the heads of its records.
-use Rattle.std.specs.Prelude.{◌≡◌, ℕ, zero, suc, ◌+◌, ◌-◌, ◌≤◌, Bool, false, cond, List, [], ◌∷◌, ◌++◌, Some, None, Ok, Err, Option, Result, ◌==◌, nat_le, nat_lt}
+use Rattle.std.specs.Prelude.{◌≡◌, ℕ, zero, suc, ◌+◌, ◌-◌, ◌≤◌, false, cond, List, [], ◌∷◌, ◌++◌, Some, None, Ok, Err, Option, Result, ◌==◌, nat_le, nat_lt}
 use Rattle.backplane.specs.Plane.{Plane}
 use Rattle.layout.specs.declared.head.Head.{Head}
 use Rattle.layout.specs.declared.head.Head.TheVariants.{OfWrite, OfParity}
 use Rattle.layout.specs.Head.{head_in, record_cells}
 use Rattle.model.specs.Coding.{Coding}
-use Rattle.model.specs.Log.{Rec, write, parity, Walked, or_else, record_from, record_at, walk_from, walk, pending, debt}
+use Rattle.model.specs.Log.{Rec, write, parity, or_else, record_at, walk_from, walk, pending, debt}
 use Rattle.faults.specs.declared.fault.LogFault.{LogFault}
 use Rattle.faults.specs.declared.fault.LogFault.TheVariants.{Damaged}
 

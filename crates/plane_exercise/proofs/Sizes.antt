@@ -2,9 +2,8 @@
 use Rattle.std.proofs.Common.{◌≡◌, ℕ, ◌+◌, false, List, Ok, Err, Result, refl, ap, arith}
 use Rattle.backplane.specs.declared.fault.BackplaneFault.{BackplaneFault}
 use Rattle.backplane.specs.declared.fault.BackplaneFault.TheVariants.{Off, NoPlace, Dead, Live, Cut}
-use Rattle.backplane.specs.Plane.{Plane, Sector, Store, to_block, to_cell, put, switched, stored}
+use Rattle.backplane.specs.Plane.{Store, to_block, to_cell, put, switched, stored}
 use Rattle.backplane.specs.Meaning.{Bytes, Stored, Read, Fitted}
-use Rattle.backplane.specs.Stores.{CutBy}
 use Rattle.plane_exercise.specs.declared.Tally.{Tally}
 use Rattle.plane_exercise.specs.Tallies.{total, noted, SameSizes, Tried}
 

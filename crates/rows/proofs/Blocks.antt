@@ -1,6 +1,6 @@
 -- The sum of blocks is commutative and associative, whatever their lengths, and zeros add nothing.
-use Rattle.std.proofs.Common.{◌≡◌, ℕ, zero, suc, ◌≤◌, List, [], ◌∷◌, length, replicate, sym, refl, ap, ◌∙◌, arith}
-use lib.Bits.{bit_xor, xor_comm, xor_assoc, xor_zero_r}
+use Rattle.std.proofs.Common.{◌≡◌, ℕ, zero, suc, ◌≤◌, List, [], ◌∷◌, length, replicate, refl, ap, ◌∙◌, arith}
+use lib.Bits.{xor_comm, xor_assoc, xor_zero_r}
 use Rattle.layout.specs.Bytes.{sum_of}
 
 cons-both : {x y : ℕ} {xs ys : List ℕ} → x ≡ y → xs ≡ ys → x ∷ xs ≡ y ∷ ys

@@ -1,5 +1,5 @@
 -- A row that is read, settled and solved is the stripe's row.
-use Rattle.std.proofs.Common.{◌≡◌, ℕ, zero, suc, ◌+◌, ◌-◌, ◌*◌, ◌<◌, ◌≤◌, Bool, true, false, cond, not, ◌&&◌, eqb, ltb, leb, List, [], ◌∷◌, ◌++◌, map, length, get_or, take, drop, set, replicate, sym, refl, ap, ◌∙◌, subst, add-one, arith}
+use Rattle.std.proofs.Common.{◌≡◌, ℕ, zero, suc, ◌+◌, ◌*◌, ◌<◌, ◌≤◌, Bool, true, false, cond, not, ◌&&◌, eqb, ltb, leb, List, [], ◌∷◌, ◌++◌, map, length, get_or, take, drop, set, replicate, sym, refl, ap, ◌∙◌, subst, add-one, arith}
 use Rattle.std.specs.List.{range_with_len}
 use Rattle.std.proofs.lemmas.List.FromFn.{fill_by_all, length-map-range_with_len, get_or-map-range_with_len, take-map-range_with_len, map-range_with_len_more}
 use Rattle.std.proofs.lemmas.List.{get_or-take, drop_all, get_or-set_same, get_or-set_other, get_or-replicate, length-replicate}
@@ -8,9 +8,8 @@ use Rattle.std.proofs.lemmas.Bool.Decides.{nat_tests}
 use Rattle.codes.specs.Code.{lost_count, solvable}
 use Rattle.layout.specs.Counts.{count}
 use Rattle.model.specs.Coding.{Coding, byte_coding, across, solve_bytes, zeros}
-use Rattle.model.specs.Log.{Rec}
-use Rattle.model.specs.Row.{lost_at, good_at, settled_with, raw}
-use Rattle.model.specs.Rules.{good_of, is_lost, log_of, row_of}
+use Rattle.model.specs.Row.{lost_at, settled_with, raw}
+use Rattle.model.specs.Rules.{good_of, is_lost, log_of}
 use Rattle.backplane.specs.Meaning.{Bytes}
 use Rattle.layout.specs.declared.header.Header.{Header}
 use Rattle.layout.specs.Stripes.{slot_of}

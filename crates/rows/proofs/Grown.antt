@@ -5,7 +5,7 @@ use Rattle.layout.specs.declared.head.Head.{Head}
 use Rattle.layout.specs.declared.head.Head.TheVariants.{OfWrite, OfParity}
 use Rattle.layout.specs.Bytes.{sum_of}
 use Rattle.model.specs.Coding.{Coding, byte_coding, zeros, share}
-use Rattle.model.specs.Log.{walk, debt}
+use Rattle.model.specs.Log.{walk}
 use Rattle.model.specs.Row.{settled_with}
 use Rattle.rows.specs.Walking.{rest, last_parity, first_after, sum_step, grow_step}
 use Rattle.rows.proofs.Blocks.{sum_of-more, sum_of-zeros}

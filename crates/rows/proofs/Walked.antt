@@ -1,13 +1,13 @@
 -- Walks over the log: their steps, and what they say of the debt of a stripe.
-use Rattle.std.proofs.Common.{◌≡◌, ℕ, zero, suc, ◌+◌, ◌-◌, ◌<◌, ◌≤◌, Bool, true, false, cond, eqb, ltb, leb, List, [], ◌∷◌, length, IfSome, Some, None, Option, sym, refl, ap, ◌∙◌, subst, arith}
+use Rattle.std.proofs.Common.{◌≡◌, ℕ, zero, suc, ◌+◌, ◌-◌, ◌<◌, ◌≤◌, Bool, true, false, cond, eqb, ltb, leb, List, [], ◌∷◌, IfSome, Some, None, Option, sym, refl, ap, ◌∙◌, subst, arith}
 use mathlib.Core.Path.{fun_ext}
 use Rattle.std.proofs.lemmas.Bool.Decides.{nat_tests}
 use Rattle.backplane.specs.Plane.{Plane}
 use Rattle.layout.specs.declared.head.Head.{Head}
 use Rattle.layout.specs.declared.head.Head.TheVariants.{OfWrite, OfParity}
 use Rattle.layout.specs.Head.{head_in, record_cells}
-use Rattle.model.specs.Coding.{Coding, share, check_rows}
-use Rattle.model.specs.Log.{Rec, write, parity, Walked, or_else, head_of, cells_of, record_from, record_at, walk_from, walk, debt}
+use Rattle.model.specs.Coding.{Coding}
+use Rattle.model.specs.Log.{Rec, Walked, or_else, cells_of, record_from, walk_from, walk, debt}
 use Rattle.rows.specs.Walking.{fitting, head_at, over, rest, last_step, last_parity, first_after, sum_step}
 
 some-cells : (m : ℕ) (h : Head) → 1 ≤ record_cells m h

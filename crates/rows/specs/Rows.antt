@@ -1,13 +1,13 @@
 -- The row of a stripe in the work area.
-use Rattle.std.specs.Prelude.{◌≡◌, ℕ, ◌+◌, ◌-◌, ◌<◌, ◌≤◌, Bool, true, false, cond, not, ◌&&◌, List, Some, None, Option, ◌==◌, nat_le, nat_lt}
+use Rattle.std.specs.Prelude.{◌≡◌, ℕ, ◌+◌, ◌-◌, ◌<◌, ◌≤◌, Bool, true, cond, not, ◌&&◌, List, Some, None, Option, ◌==◌, nat_le, nat_lt}
 use Rattle.backplane.specs.Meaning.{Bytes}
 use Rattle.layout.specs.declared.shape.Shape.{Shape}
 use Rattle.layout.specs.declared.header.Header.{Header}
 use Rattle.layout.specs.Limits.{within_limits}
 use Rattle.layout.specs.Header.{header_fits}
 use Rattle.model.specs.Coding.{Coding, byte_coding, width}
-use Rattle.model.specs.Row.{missing, settled_with}
-use Rattle.model.specs.Rules.{good_of, shape_of, past_repair, row_of, rebuilt, log_of}
+use Rattle.model.specs.Row.{settled_with}
+use Rattle.model.specs.Rules.{shape_of, past_repair, row_of, log_of}
 use Rattle.rows.specs.Columns.{column_in}
 
 -- the code on a backplane: the slots that hold no check hold data

@@ -1,6 +1,5 @@
 -- Calls made on an array just formatted keep the promise.
-use Rattle.std.proofs.Common.{◌≡◌, ℕ, ◌-◌, List, [], subst}
-use Rattle.backplane.specs.Plane.{Sector}
+use Rattle.std.proofs.Common.{◌≡◌, ℕ, ◌-◌, List, subst}
 use Rattle.backplane.specs.Meaning.{Sound}
 use Rattle.backplane.specs.declared.Backplane.{Ghosts as PlaneGhosts}
 use Rattle.codes.specs.declared.code.Code.{Ghosts as CodeGhosts}

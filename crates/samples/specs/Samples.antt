@@ -1,5 +1,5 @@
 -- Worked examples, of the very definitions that the contracts cite.
-use Rattle.std.specs.Prelude.{ℕ, ◌≡◌, Bool, true, false, List, [], ◌∷◌, take}
+use Rattle.std.specs.Prelude.{ℕ, ◌≡◌, true, List, [], ◌∷◌, take}
 use Rattle.field.specs.Field.{doubled, exp}
 use Rattle.codes.specs.Single.{single}
 use Rattle.codes.specs.Double.{double, solved_two}

@@ -4,7 +4,7 @@
 ghost use Rattle.std.specs.Prelude.{◌≡◌, [], ◌∷◌};
 ghost use Rattle.samples.specs.Samples.{Samples};
 
-use codes::Code;
+use codes::{Code, DoubleParity, SingleParity};
 use field::{double, power};
 
 // The answers to the samples, in their order.
@@ -17,9 +17,9 @@ pub fn samples_hold() -> [u8; 7]
     [
         double(128),
         power(12),
-        <codes::SingleParity as Code>::check_byte(0, &bytes),
-        <codes::DoubleParity as Code>::check_byte(0, &bytes),
-        <codes::DoubleParity as Code>::check_byte(1, &bytes),
+        SingleParity::check_byte(0, &bytes),
+        DoubleParity::check_byte(0, &bytes),
+        DoubleParity::check_byte(1, &bytes),
         x,
         y,
     ]
@@ -31,6 +31,6 @@ fn solved_pair() -> (u8, u8)
 {
     let mut row = [0, 0, 3, 0, 9];
     let lost = [true, true];
-    let _ = <codes::DoubleParity as Code>::solve(3, &mut row, &lost);
+    let _ = DoubleParity::solve(3, &mut row, &lost);
     (row[0], row[1])
 }

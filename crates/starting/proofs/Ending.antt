@@ -1,5 +1,5 @@
 -- How a call ends whose last act is a list of stores, after which a header is held.
-use Rattle.std.proofs.Common.{◌≡◌, ℕ, Bool, true, false, cond, List, [], Some, None, Ok, Err, Option, Result, refl, ap, inl, inr, arith}
+use Rattle.std.proofs.Common.{◌≡◌, ℕ, List, [], Some, Ok, Err, Option, Result, refl, ap, inl, inr}
 use Rattle.backplane.specs.Plane.{Sector, Store}
 use Rattle.backplane.specs.Meaning.{Bytes}
 use Rattle.layout.specs.declared.header.Header.{Header}

@@ -1,5 +1,5 @@
 -- The stores that finish a record.
-use Rattle.std.proofs.Common.{◌≡◌, ℕ, zero, suc, ◌+◌, ◌-◌, ◌<◌, ◌≤◌, Bool, true, false, cond, ◌&&◌, ltb, leb, List, [], ◌∷◌, ◌++◌, get_or, Some, None, Option, sym, refl, ap, ◌∙◌, subst, ap₂, add-one, arith}
+use Rattle.std.proofs.Common.{◌≡◌, ℕ, zero, suc, ◌+◌, ◌<◌, ◌≤◌, Bool, true, false, cond, ◌&&◌, ltb, leb, List, [], ◌∷◌, ◌++◌, get_or, Some, None, Option, sym, refl, ap, ◌∙◌, subst, ap₂, add-one, arith}
 use Rattle.std.proofs.lemmas.Bool.{cond-true, lt-ltb, ltb-true, leb-true}
 use Rattle.backplane.specs.Plane.{Store, to_block}
 use Rattle.backplane.specs.Meaning.{Bytes}

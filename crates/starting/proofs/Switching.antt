@@ -8,7 +8,7 @@ use Rattle.layout.specs.declared.header.Header.{Header}
 use Rattle.layout.specs.Head.{head_in, record_cells}
 use Rattle.layout.specs.Header.{header_in, is_laid_out}
 use Rattle.model.specs.Coding.{Coding}
-use Rattle.model.specs.Log.{Rec, Walked, or_else, cells_of, record_from, record_at, walk_from, walk}
+use Rattle.model.specs.Log.{Rec, Walked, or_else, cells_of, record_from, record_at, walk_from}
 use Rattle.model.specs.Rules.{shape_of, is_there, is_good, too_full, finish_last}
 use Rattle.model.specs.Verdict.{Verdict, refusal, nothing, done, guard, make}
 use Rattle.starting.specs.Finish.{start_on}

@@ -1,5 +1,5 @@
 -- What is known of a started array.
-use Rattle.std.proofs.Common.{◌≡◌, ℕ, ◌+◌, ◌-◌, ◌*◌, ◌<◌, ◌≤◌, Bool, true, false, cond, not, ◌&&◌, eqb, ltb, leb, List, Some, None, Option, sym, refl, ap, ◌∙◌, subst, lt_of_mul-lt-mul_right, arith}
+use Rattle.std.proofs.Common.{◌≡◌, ℕ, ◌+◌, ◌*◌, ◌<◌, ◌≤◌, Bool, true, false, cond, not, ◌&&◌, eqb, ltb, leb, List, Some, None, Option, sym, refl, ap, subst, lt_of_mul-lt-mul_right, arith}
 use Rattle.std.proofs.lemmas.Bool.{and_from, not_from_false, lt-ltb, le-ltb, le-leb, eq-eqb}
 use Rattle.backplane.specs.Meaning.{Bytes}
 use Rattle.layout.specs.declared.header.Header.{Header}

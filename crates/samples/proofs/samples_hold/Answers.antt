@@ -1,4 +1,4 @@
-use mathlib.Core.Path.{◌≡◌, ap, ◌∙◌}
+use mathlib.Core.Path.{◌≡◌, ap}
 use Rattle.samples.proofs.Computed.{samples}
 use Rattle.samples.proofs.samples_hold.Goals as goal
 

@@ -1,4 +1,4 @@
-use Rattle.std.proofs.Common.{◌≡◌, ℕ, ◌+◌, ◌<◌, ◌≤◌, Bool, true, false, cond, not, sym, ap, ◌∙◌, add_comm, arith}
+use Rattle.std.proofs.Common.{not, arith}
 use Rattle.array.proofs.Dead.{one_more, none-dead, at_most_one}
 use Rattle.array.proofs.format.dead_slots.Goals as goal
 

@@ -1,4 +1,4 @@
-use Rattle.std.proofs.Common.{◌≡◌, ℕ, cond, ltb, arith, rules}
+use Rattle.std.proofs.Common.{ℕ, cond, ltb, arith, rules}
 use Rattle.std.proofs.lemmas.List.Edits.{fill_by_more}
 use Rattle.std.proofs.lemmas.List.FromFn.{fill_by_all}
 use Rattle.array.proofs.format.first_header.Goals as goal

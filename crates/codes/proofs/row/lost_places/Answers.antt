@@ -1,4 +1,4 @@
-use Rattle.std.proofs.Common.{◌≡◌, true, false, sym, ap, ◌∙◌, arith, rules}
+use Rattle.std.proofs.Common.{true, false, sym, arith}
 use Rattle.std.proofs.lemmas.List.{at_drop_all}
 use Rattle.codes.specs.Code.{lost_count}
 use Rattle.codes.specs.Steps.{count_turn}

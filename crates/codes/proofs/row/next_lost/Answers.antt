@@ -1,5 +1,5 @@
 use Rattle.std.proofs.Common.{sym, ◌∙◌, arith}
-use Rattle.codes.specs.Steps.{next-true, next-false, next-end}
+use Rattle.codes.specs.Steps.{next-true, next-false}
 use Rattle.codes.proofs.row.next_lost.Goals as goal
 
 pub loop-c-preserved : goal.loop-c-preserved

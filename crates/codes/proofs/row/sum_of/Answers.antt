@@ -1,7 +1,7 @@
-use Rattle.std.proofs.Common.{◌≡◌, ℕ, ◌+◌, ◌<◌, ◌≤◌, length, get_or, sym, refl, ap, ◌∙◌, arith}
+use Rattle.std.proofs.Common.{ℕ, get_or, sym, ap, ◌∙◌, arith}
 use lib.Bits.{bit_xor}
 use Rattle.std.proofs.lemmas.List.{get_or_past}
-use Rattle.codes.specs.Sums.{sum_to, total}
+use Rattle.codes.specs.Sums.{total}
 use Rattle.codes.specs.SumsLemmas.{sum-start, sum_more, sum-cut}
 use Rattle.codes.proofs.row.sum_of.Goals as goal
 

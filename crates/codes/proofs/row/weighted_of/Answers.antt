@@ -1,10 +1,10 @@
-use Rattle.std.proofs.Common.{◌≡◌, ℕ, ◌+◌, ◌*◌, ◌<◌, ◌≤◌, length, get_or, sym, refl, ap, ◌∙◌, arith}
+use Rattle.std.proofs.Common.{ℕ, ◌*◌, get_or, sym, ap, ◌∙◌, arith}
 use lib.Bits.{bit_xor}
 use Rattle.std.proofs.lemmas.List.{get_or_past}
 use Rattle.field.specs.Field.{exp, times}
 use Rattle.field.proofs.Rules.{exp-mod}
 use Rattle.field.proofs.Laws.{times-zero-r}
-use Rattle.codes.specs.Sums.{sum_to, weighted}
+use Rattle.codes.specs.Sums.{weighted}
 use Rattle.codes.specs.SumsLemmas.{sum-start, sum_more, sum-cut}
 use Rattle.codes.proofs.row.weighted_of.Goals as goal
 

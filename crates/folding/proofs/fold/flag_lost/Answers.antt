@@ -1,4 +1,4 @@
-use Rattle.std.proofs.Common.{◌≡◌, Bool, List, sym, ap, ◌∙◌}
+use Rattle.std.proofs.Common.{Bool, List, sym, ap, ◌∙◌}
 use Rattle.model.specs.Rules.{good_of}
 use Rattle.rows.specs.Columns.{flagged}
 use Rattle.rows.proofs.Filled.{flag_is, live_of}

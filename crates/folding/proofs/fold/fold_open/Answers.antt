@@ -1,4 +1,4 @@
-use Rattle.std.proofs.Common.{◌≡◌, ℕ, ◌+◌, ◌-◌, ◌≤◌, Some, ◌∙◌, subst, arith}
+use Rattle.std.proofs.Common.{◌≡◌, ◌+◌, ◌≤◌, Some, ◌∙◌, subst, arith}
 use Rattle.backplane.specs.Meaning.{Bytes}
 use Rattle.model.specs.Coding.{width}
 use Rattle.model.specs.Rules.{folded, grown}

@@ -1,8 +1,7 @@
-use Rattle.std.proofs.Common.{◌≡◌, ℕ, ◌+◌, ◌-◌, ◌*◌, ◌<◌, cond, List, [], ◌∷◌, ap, ◌∙◌, subst, arith}
+use Rattle.std.proofs.Common.{◌≡◌, ℕ, ◌+◌, ◌-◌, ◌*◌, ◌<◌, cond, List, [], ◌∷◌, ap, subst, arith}
 use Rattle.backplane.specs.Plane.{Store, to_block}
 use Rattle.layout.specs.Stripes.{slot_of}
 use Rattle.rows.proofs.Placed.{column-is}
-use Rattle.rows.specs.Columns.{column_in}
 use Rattle.array.specs.Calls.{Performed}
 use Rattle.folding.proofs.parity.finish_check.Goals as goal
 

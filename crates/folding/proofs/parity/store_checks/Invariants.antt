@@ -1,4 +1,4 @@
-use Rattle.std.proofs.Common.{◌≡◌, ◌-◌, Result}
+use Rattle.std.proofs.Common.{◌-◌, Result}
 use Rattle.backplane.specs.Meaning.{Bytes}
 use Rattle.faults.specs.declared.fault.ArrayFault.{ArrayFault}
 use Rattle.array.specs.Calls.{Performed}

@@ -1,5 +1,4 @@
-use Rattle.std.proofs.Common.{◌≡◌, ℕ, get_or, set, sym, ap, ◌∙◌, arith}
-use lib.Bits.{bit_xor}
+use Rattle.std.proofs.Common.{◌≡◌, ℕ, get_or, ap, ◌∙◌, arith}
 use Rattle.layout.specs.Bytes.{summed_to}
 use Rattle.layout.proofs.Adding.{summed_to-more, summed_to-at, summed_to-all}
 use Rattle.layout.proofs.blocks.add_front.Goals as goal

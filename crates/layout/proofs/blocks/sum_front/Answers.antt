@@ -1,4 +1,4 @@
-use Rattle.std.proofs.Common.{◌≡◌, ℕ, get_or, set, sym, ap, ◌∙◌, arith}
+use Rattle.std.proofs.Common.{◌≡◌, ℕ, ap, ◌∙◌, arith}
 use Rattle.layout.specs.Bytes.{summed_to}
 use Rattle.layout.proofs.Adding.{summed_to-more, summed_to-all}
 use Rattle.layout.proofs.blocks.sum_front.Goals as goal

@@ -1,4 +1,4 @@
-use Rattle.std.proofs.Common.{◌≡◌, sym, ap, ◌∙◌, arith}
+use Rattle.std.proofs.Common.{sym, ap, ◌∙◌, arith}
 use Rattle.layout.specs.Head.{head_bytes}
 use Rattle.layout.proofs.Heads.{wrote-back, folded_back}
 use Rattle.layout.proofs.head.encode_cell.Goals as goal

@@ -1,9 +1,9 @@
-use Rattle.std.proofs.Common.{◌≡◌, ℕ, ◌+◌, ◌-◌, ◌*◌, true, List, ◌++◌, length, get_or, take, replicate, sym, refl, ap, ◌∙◌, ap₂, arith, rules}
+use Rattle.std.proofs.Common.{◌≡◌, ℕ, ◌+◌, ◌-◌, ◌*◌, List, ◌++◌, length, get_or, take, replicate, ap, ◌∙◌, ap₂, arith, rules}
 use lib.Seq.{paste}
 use Rattle.std.specs.List.{flat_map}
 use Rattle.std.proofs.lemmas.List.{append_assoc, take_all}
 use Rattle.layout.specs.Bytes.{le4}
-use Rattle.layout.specs.Header.{front_bytes, header_bytes, header_in, is_laid_out}
+use Rattle.layout.specs.Header.{front_bytes, header_bytes}
 use Rattle.layout.proofs.Numbers.{goods-more}
 use Rattle.layout.proofs.Headers.{length-front_bytes, encoded-back}
 use Rattle.layout.proofs.header.encode_cell.Goals as goal

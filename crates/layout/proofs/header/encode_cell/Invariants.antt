@@ -1,4 +1,4 @@
-use Rattle.std.proofs.Common.{◌≡◌, ◌+◌, ◌-◌, ◌*◌, ◌++◌, take, replicate}
+use Rattle.std.proofs.Common.{◌≡◌, ◌-◌, ◌*◌, ◌++◌, take, replicate}
 use Rattle.std.specs.List.{flat_map}
 use Rattle.layout.specs.Bytes.{le4}
 use Rattle.layout.specs.Header.{front_bytes}

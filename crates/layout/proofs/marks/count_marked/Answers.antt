@@ -1,4 +1,4 @@
-use Rattle.std.proofs.Common.{◌≡◌, ℕ, Bool, true, false, cond, sym, ap, ◌∙◌, arith}
+use Rattle.std.proofs.Common.{◌≡◌, ℕ, Bool, cond, sym, ap, arith}
 use Rattle.layout.specs.Marks.{marked}
 use Rattle.layout.proofs.Counting.{count-more}
 use Rattle.layout.proofs.marks.count_marked.Goals as goal

@@ -1,4 +1,4 @@
-use Rattle.std.proofs.Common.{◌≡◌, ℕ, Bool, true, false, cond, sym, ap, ◌∙◌, arith}
+use Rattle.std.proofs.Common.{◌≡◌, ℕ, Bool, false, cond, sym, ap, ◌∙◌, arith}
 use Rattle.layout.specs.Marks.{marked}
 use Rattle.layout.proofs.Counting.{count-more, first-here, lowest-later}
 use Rattle.layout.proofs.marks.lowest_marked.Goals as goal

@@ -2,7 +2,7 @@ use Rattle.std.proofs.Common.{◌≡◌, ℕ, ◌*◌, ◌<◌, Bool, true, cond
 use Rattle.std.proofs.lemmas.Bool.{cases_lt, ne_eqb, cond-false}
 use Rattle.layout.specs.Marks.{marked}
 use Rattle.model.specs.Coding.{byte_coding}
-use Rattle.model.specs.Log.{Rec, walk, write, owing}
+use Rattle.model.specs.Log.{walk, write, owing}
 use Rattle.parity_log.specs.Pending.{with_write, MarksOwing}
 use Rattle.parity_log.proofs.Owed.{marks-owing, owing-write}
 use Rattle.parity_log.proofs.owing.mark_all.Goals as goal

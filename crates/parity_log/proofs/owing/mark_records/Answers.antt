@@ -1,7 +1,7 @@
-use Rattle.std.proofs.Common.{◌≡◌, ℕ, ◌+◌, ◌≤◌, Bool, List, [], ◌∷◌, length, Some, None, sym, refl, ap, ◌∙◌, subst, arith}
+use Rattle.std.proofs.Common.{◌≡◌, ℕ, ◌+◌, Bool, List, [], ◌∷◌, length, Some, None, sym, refl, ap, ◌∙◌, subst, arith}
 use Rattle.layout.specs.Head.{record_cells}
 use Rattle.model.specs.Coding.{byte_coding}
-use Rattle.model.specs.Log.{Rec, record_from, walk, owing}
+use Rattle.model.specs.Log.{Rec, record_from, owing}
 use Rattle.parity_log.specs.Pending.{owing_after}
 use Rattle.parity_log.specs.Walks.{head_at}
 use Rattle.parity_log.proofs.Owed.{unmarked, owing-next}

@@ -1,9 +1,9 @@
-use Rattle.std.proofs.Common.{◌≡◌, ℕ, ◌+◌, ◌≤◌, Bool, true, false, cond, List, [], ◌∷◌, ◌++◌, Some, None, sym, refl, ap, ◌∙◌, subst, arith}
+use Rattle.std.proofs.Common.{◌≡◌, ℕ, ◌+◌, ◌≤◌, Bool, true, false, cond, [], ◌∷◌, ◌++◌, Some, None, sym, refl, ap, ◌∙◌, subst, arith}
 use Rattle.layout.specs.Head.{record_cells}
 use Rattle.model.specs.Coding.{byte_coding}
-use Rattle.model.specs.Log.{Rec, record_from, walk}
-use Rattle.parity_log.specs.Pending.{writes_of, is_write_of}
-use Rattle.parity_log.specs.Walks.{head_at, resume_at, Resumes}
+use Rattle.model.specs.Log.{record_from, walk}
+use Rattle.parity_log.specs.Pending.{is_write_of}
+use Rattle.parity_log.specs.Walks.{head_at, Resumes}
 use Rattle.parity_log.proofs.Resuming.{pending-after, writes-next}
 use Rattle.parity_log.proofs.Walking.{Stands, stands-next, head-within, cells-some, log-past, log-damaged, fault-kept}
 use Rattle.parity_log.proofs.pending.count_after.Goals as goal

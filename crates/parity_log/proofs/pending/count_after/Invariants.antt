@@ -1,4 +1,4 @@
-use Rattle.std.proofs.Common.{◌≡◌, ℕ, ◌+◌, ◌-◌, ◌≤◌, List, ◌++◌, length, None}
+use Rattle.std.proofs.Common.{◌≡◌, ℕ, ◌+◌, ◌-◌, ◌≤◌, List, ◌++◌, None}
 use Rattle.backplane.specs.Plane.{to_cell}
 use Rattle.backplane.specs.Meaning.{fault_of}
 use Rattle.model.specs.Coding.{byte_coding}

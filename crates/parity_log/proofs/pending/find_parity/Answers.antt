@@ -1,7 +1,7 @@
-use Rattle.std.proofs.Common.{◌≡◌, ℕ, ◌+◌, ◌≤◌, Bool, true, false, cond, List, [], ◌∷◌, ◌++◌, Some, None, Option, sym, refl, ap, ◌∙◌, subst, arith}
+use Rattle.std.proofs.Common.{◌≡◌, ℕ, ◌+◌, ◌≤◌, List, [], ◌∷◌, Some, None, Option, sym, refl, ap, ◌∙◌, subst, arith}
 use Rattle.layout.specs.Head.{record_cells}
 use Rattle.model.specs.Coding.{byte_coding}
-use Rattle.model.specs.Log.{Rec, record_from, walk}
+use Rattle.model.specs.Log.{Rec, record_from}
 use Rattle.parity_log.specs.Walks.{head_at, parity_at, last_parity, resume_at, Resumes}
 use Rattle.parity_log.proofs.Resuming.{resumes-first, resumes-next}
 use Rattle.parity_log.proofs.Walking.{Stands, Comes, stands-first, stands-next, comes-first, comes-next, comes-past, comes-damaged, head-within, cells-some, log-past, log-damaged, fault-kept}

@@ -1,8 +1,8 @@
-use Rattle.std.proofs.Common.{◌≡◌, ℕ, ◌+◌, ◌-◌, ◌≤◌, List, ◌++◌, length, None}
+use Rattle.std.proofs.Common.{◌≡◌, ℕ, ◌+◌, ◌-◌, ◌≤◌, List, length, None}
 use Rattle.backplane.specs.Plane.{to_cell}
 use Rattle.backplane.specs.Meaning.{fault_of}
 use Rattle.model.specs.Coding.{byte_coding}
-use Rattle.model.specs.Log.{Rec, walk}
+use Rattle.model.specs.Log.{Rec}
 use Rattle.parity_log.specs.Walks.{parity_at, last_parity, resume_at, Resumes}
 use Rattle.parity_log.proofs.Walking.{Stands, Comes}
 use Rattle.parity_log.proofs.pending.find_parity.Given as goal

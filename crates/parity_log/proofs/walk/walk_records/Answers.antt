@@ -1,7 +1,7 @@
-use Rattle.std.proofs.Common.{◌≡◌, ℕ, ◌+◌, ◌≤◌, List, [], ◌∷◌, Some, None, sym, refl, ap, ◌∙◌, subst, arith}
+use Rattle.std.proofs.Common.{◌≡◌, ℕ, ◌+◌, ◌≤◌, [], ◌∷◌, Some, None, sym, refl, ap, ◌∙◌, subst, arith}
 use Rattle.layout.specs.Head.{record_cells}
 use Rattle.model.specs.Coding.{byte_coding}
-use Rattle.model.specs.Log.{Rec, record_from, walk}
+use Rattle.model.specs.Log.{record_from}
 use Rattle.parity_log.specs.Walks.{head_at, last_head, LastAt}
 use Rattle.parity_log.proofs.Walking.{Stands, LastIs, stands-first, stands-next, comes-first, comes-next, last-at, head-within, cells-some, end-past, end-damaged, log-past, fault-kept}
 use Rattle.parity_log.proofs.walk.walk_records.Goals as goal

@@ -1,4 +1,4 @@
-use Rattle.std.proofs.Common.{◌≡◌, ℕ, ◌+◌, List, [], ◌∷◌, Some, subst}
+use Rattle.std.proofs.Common.{ℕ, ◌+◌, List, [], ◌∷◌, Some, subst}
 use Rattle.backplane.specs.Plane.{to_block, to_cell}
 use Rattle.backplane.specs.Meaning.{Bytes}
 use Rattle.layout.specs.Header.{header_bytes}

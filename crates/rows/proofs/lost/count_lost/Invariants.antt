@@ -1,4 +1,4 @@
-use Rattle.std.proofs.Common.{◌≡◌, ℕ, ◌≤◌}
+use Rattle.std.proofs.Common.{◌≡◌, ◌≤◌}
 use Rattle.layout.specs.Counts.{count}
 use Rattle.model.specs.Row.{lost_at}
 use Rattle.model.specs.Rules.{good_of}

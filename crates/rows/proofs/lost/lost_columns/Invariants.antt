@@ -1,4 +1,4 @@
-use Rattle.std.proofs.Common.{◌≡◌, ℕ, ◌<◌, Bool, false, length, get_or}
+use Rattle.std.proofs.Common.{◌≡◌, ℕ, ◌<◌, false, length, get_or}
 use Rattle.model.specs.Rules.{good_of}
 use Rattle.rows.specs.Lost.{is_lost_of}
 use Rattle.rows.proofs.lost.lost_columns.Given as goal

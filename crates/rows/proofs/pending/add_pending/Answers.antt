@@ -1,11 +1,10 @@
-use Rattle.std.proofs.Common.{◌≡◌, ℕ, ◌+◌, ◌*◌, ◌<◌, ◌≤◌, Bool, true, List, length, Some, None, Option, sym, refl, ap, ◌∙◌, subst, arith, rules}
+use Rattle.std.proofs.Common.{◌≡◌, ℕ, ◌+◌, ◌≤◌, Bool, List, Some, None, sym, refl, ap, ◌∙◌, arith}
 use Rattle.backplane.specs.Meaning.{Bytes}
-use Rattle.layout.specs.declared.head.Head.{Head}
 use Rattle.layout.specs.Head.{record_cells}
-use Rattle.model.specs.Coding.{Coding, byte_coding}
+use Rattle.model.specs.Coding.{byte_coding}
 use Rattle.rows.specs.Columns.{column_in, flagged}
 use Rattle.rows.specs.Walking.{head_at, after, rest, grow_step, column_below}
-use Rattle.rows.proofs.Walked.{rest-done, rest-stop, rest-step, head-fits, two_cells, of_some}
+use Rattle.rows.proofs.Walked.{rest-done, rest-stop, rest-step, two_cells, of_some}
 use Rattle.rows.proofs.pending.add_pending.Goals as goal
 
 pub loop-at-init : goal.loop-at-init

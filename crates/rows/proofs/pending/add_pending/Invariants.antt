@@ -1,4 +1,4 @@
-use Rattle.std.proofs.Common.{◌≡◌, ℕ, ◌+◌, ◌-◌, ◌<◌, ◌≤◌, length}
+use Rattle.std.proofs.Common.{◌≡◌, ℕ, ◌+◌, ◌-◌, ◌<◌}
 use Rattle.model.specs.Coding.{byte_coding}
 use Rattle.rows.specs.Columns.{column_in, flagged}
 use Rattle.rows.specs.Walking.{rest, grow_step}

@@ -1,7 +1,7 @@
-use Rattle.std.proofs.Common.{◌≡◌, ℕ, ◌+◌, ◌-◌, ◌*◌, ◌<◌, ◌≤◌, Bool, cond, List, length, take, drop, sym, refl, ap, ◌∙◌, arith}
+use Rattle.std.proofs.Common.{◌≡◌, ℕ, ◌+◌, ◌-◌, ◌*◌, Bool, cond, List, length, take, drop, sym, ap, ◌∙◌, arith}
 use Rattle.layout.specs.Bytes.{sum_of}
 use Rattle.model.specs.Coding.{byte_coding, share}
-use Rattle.rows.specs.Columns.{column_in, ColumnPut}
+use Rattle.rows.specs.Columns.{column_in}
 use Rattle.rows.proofs.Placed.{put-column, put_as, column-is, full-column}
 use Rattle.rows.proofs.pending.add_to_column.Goals as goal
 

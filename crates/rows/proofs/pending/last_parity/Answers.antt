@@ -1,9 +1,8 @@
-use Rattle.std.proofs.Common.{◌≡◌, ℕ, ◌+◌, ◌<◌, ◌≤◌, IfSome, Some, None, Option, sym, refl, ap, ◌∙◌, subst, arith}
+use Rattle.std.proofs.Common.{◌≡◌, ℕ, ◌+◌, ◌<◌, IfSome, Some, None, Option, sym, ap, ◌∙◌, subst, arith}
 use Rattle.backplane.specs.Meaning.{Bytes}
-use Rattle.layout.specs.declared.head.Head.{Head}
-use Rattle.layout.specs.Head.{head_in, record_cells}
-use Rattle.model.specs.Coding.{Coding, byte_coding}
-use Rattle.rows.specs.Walking.{head_at, rest, last_step, last_parity}
+use Rattle.layout.specs.Head.{record_cells}
+use Rattle.model.specs.Coding.{byte_coding}
+use Rattle.rows.specs.Walking.{head_at, rest, last_step}
 use Rattle.rows.proofs.Walked.{rest-done, rest-stop, rest-step, head-fits, last_within}
 use Rattle.rows.proofs.pending.last_parity.Goals as goal
 

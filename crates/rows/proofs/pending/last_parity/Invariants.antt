@@ -1,4 +1,4 @@
-use Rattle.std.proofs.Common.{◌≡◌, ℕ, ◌+◌, ◌-◌, ◌<◌, ◌≤◌, length, IfSome}
+use Rattle.std.proofs.Common.{◌≡◌, ◌+◌, ◌-◌, ◌<◌, ◌≤◌, IfSome}
 use Rattle.model.specs.Coding.{byte_coding}
 use Rattle.rows.specs.Walking.{rest, last_step, last_parity}
 use Rattle.rows.proofs.pending.last_parity.Given as goal

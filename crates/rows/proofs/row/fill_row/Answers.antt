@@ -1,7 +1,7 @@
-use Rattle.std.proofs.Common.{◌≡◌, ℕ, ◌+◌, ◌-◌, ◌*◌, ◌<◌, ◌≤◌, Bool, true, false, cond, List, length, take, sym, refl, ap, ◌∙◌, subst, arith}
+use Rattle.std.proofs.Common.{◌≡◌, ℕ, ◌-◌, ◌*◌, ◌≤◌, Bool, cond, List, length, take, sym, ap, ◌∙◌, arith}
 use Rattle.backplane.specs.Meaning.{Bytes}
 use Rattle.layout.specs.Stripes.{slot_of}
-use Rattle.model.specs.Coding.{Coding, byte_coding, zeros}
+use Rattle.model.specs.Coding.{byte_coding, zeros}
 use Rattle.model.specs.Log.{walk}
 use Rattle.model.specs.Row.{settled_with}
 use Rattle.model.specs.Rules.{good_of}

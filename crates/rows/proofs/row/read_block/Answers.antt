@@ -1,4 +1,4 @@
-use Rattle.std.proofs.Common.{◌≡◌, ℕ, Bool, cond, List, length, replicate, sym, refl, ap, ◌∙◌}
+use Rattle.std.proofs.Common.{ℕ, Bool, cond, replicate, sym, refl, ap, ◌∙◌}
 use Rattle.layout.specs.Stripes.{slot_of}
 use Rattle.model.specs.Coding.{zeros}
 use Rattle.rows.proofs.row.read_block.Goals as goal

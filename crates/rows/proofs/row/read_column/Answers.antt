@@ -1,5 +1,4 @@
-use Rattle.std.proofs.Common.{◌≡◌, ℕ, ◌+◌, ◌-◌, ◌*◌, ◌<◌, ◌≤◌, List, length, take, drop, sym, refl, ap, ◌∙◌, arith}
-use Rattle.rows.specs.Columns.{column_in, ColumnPut}
+use Rattle.std.proofs.Common.{◌≡◌, ℕ, ◌+◌, ◌-◌, ◌*◌, List, length, take, drop, ap, ◌∙◌, arith}
 use Rattle.rows.proofs.Placed.{put-column, put_as, column-is, full-column}
 use Rattle.rows.proofs.row.read_column.Goals as goal
 

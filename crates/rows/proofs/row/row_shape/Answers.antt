@@ -1,4 +1,4 @@
-use Rattle.std.proofs.Common.{◌≡◌, not, ◌&&◌, ltb, sym}
+use Rattle.std.proofs.Common.{not, ◌&&◌, ltb, sym}
 use Rattle.std.proofs.lemmas.Bool.{and_left}
 use Rattle.model.specs.Rules.{past_repair}
 use Rattle.rows.specs.Rows.{coding_on, is_open, has_room}

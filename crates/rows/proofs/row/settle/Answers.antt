@@ -1,8 +1,8 @@
-use Rattle.std.proofs.Common.{◌≡◌, ℕ, ◌<◌, List, Option, sym, refl, ap, ◌∙◌, arith}
+use Rattle.std.proofs.Common.{◌≡◌, ℕ, List, Option, ap, ◌∙◌, arith}
 use Rattle.backplane.specs.Meaning.{Bytes}
 use Rattle.model.specs.Coding.{byte_coding}
 use Rattle.rows.specs.Columns.{column_in, flagged}
-use Rattle.rows.specs.Walking.{after, rest, grow_step, last_parity}
+use Rattle.rows.specs.Walking.{after, rest, grow_step}
 use Rattle.rows.proofs.Placed.{length-column}
 use Rattle.rows.proofs.Grown.{grown-is}
 use Rattle.rows.proofs.row.settle.Goals as goal

@@ -1,4 +1,4 @@
-use Rattle.std.proofs.Common.{◌≡◌, ℕ, ◌<◌, Bool, cond, eqb, List, sym, refl, ap, ◌∙◌, arith}
+use Rattle.std.proofs.Common.{ℕ, ◌<◌, Bool, cond, eqb, List, ap, ◌∙◌, arith}
 use Rattle.backplane.specs.Meaning.{Bytes}
 use Rattle.model.specs.Coding.{byte_coding}
 use Rattle.model.specs.Log.{walk}

@@ -1,9 +1,9 @@
-use Rattle.std.proofs.Common.{◌≡◌, ℕ, ◌+◌, List, [], ◌∷◌, ◌++◌, length, get_or, take, vec_items, refl, ap, ◌∙◌, arith, take_all}
+use Rattle.std.proofs.Common.{◌+◌, [], ◌∷◌, ◌++◌, length, get_or, vec_items, refl, ap, ◌∙◌, arith, take_all}
 use Rattle.std.proofs.lemmas.Result.{err_from_is_err_and}
 use Rattle.model.specs.Rules.{verdict}
 use Rattle.array.specs.Calls.{view_of, coding_of}
 use Rattle.run.specs.Calls.{call_of, reply_for}
-use Rattle.run.specs.Runs.{MadeAll, device_of}
+use Rattle.run.specs.Runs.{device_of}
 use Rattle.run.specs.declared.call.Call.{Call}
 use Rattle.run.specs.declared.call.Call.TheVariants.{Read}
 use Rattle.run.proofs.Sizes.{ends-slots}

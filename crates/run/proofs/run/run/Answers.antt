@@ -1,4 +1,4 @@
-use Rattle.std.proofs.Common.{◌≡◌, length, vec_items, ap, ◌∙◌}
+use Rattle.std.proofs.Common.{length, vec_items, ap, ◌∙◌}
 use Rattle.std.proofs.lemmas.Result.{err_from_is_err_and}
 use Rattle.model.specs.ByteLaws.{ByteLaws}
 use Rattle.run.proofs.Work.{wiped-length}

@@ -30,5 +30,5 @@ returns-in-Some-read_header g c =
     let there = c.in-Some-read_header.ensures.value in
     let known = found g.C.Code.rows (shape_of (on p) p) (p.cell 0) h (subst (λ (s : Shape). Some h ≡ header_of g.C.Code.rows s (p.cell 0)) shape there) in
     let ends : Ends Sector [] (start_open (on p) p h) p o (reply_of acked r) q u =
-      subst (λ (x : Bytes). Ends Sector [] (start_open (on x) x h) x o (reply_of acked r) q u) c.in-Some-read_header.ensures.kept c.start_open.ensures in
+    subst (λ (x : Bytes). Ends Sector [] (start_open (on x) x h) x o (reply_of acked r) q u) c.in-Some-read_header.ensures.kept c.start_open.ensures in
     inr (known.0, subst (λ (y : Header). Ends Sector [] (start_open (on p) p y) p o (reply_of acked r) q u) (sym known.1) ends)

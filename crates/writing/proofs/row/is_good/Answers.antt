@@ -1,4 +1,4 @@
-use Rattle.std.proofs.Common.{◌≡◌, Bool, true, not, ◌&&◌, ltb, sym, ap, ◌∙◌}
+use Rattle.std.proofs.Common.{not, ltb, sym, ap, ◌∙◌}
 use Rattle.std.proofs.lemmas.Bool.{and_parts, lt-ltb}
 use Rattle.layout.specs.Stripes.{slot_of}
 use Rattle.model.specs.Row.{good_at}

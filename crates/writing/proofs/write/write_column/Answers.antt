@@ -1,4 +1,4 @@
-use Rattle.std.proofs.Common.{◌≡◌, ℕ, ◌+◌, ◌-◌, ◌≤◌, List, Some, ◌∙◌, subst, arith}
+use Rattle.std.proofs.Common.{◌≡◌, ℕ, ◌+◌, ◌≤◌, List, Some, ◌∙◌, subst, arith}
 use Rattle.backplane.specs.Meaning.{Bytes}
 use Rattle.layout.specs.Bytes.{sum_of}
 use Rattle.model.specs.Coding.{width}

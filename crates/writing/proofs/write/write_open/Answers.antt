@@ -1,4 +1,4 @@
-use Rattle.std.proofs.Common.{◌≡◌, ℕ, [], subst}
+use Rattle.std.proofs.Common.{ℕ, [], subst}
 use Rattle.backplane.specs.Plane.{Sector}
 use Rattle.layout.specs.Stripes.{stripe_of}
 use Rattle.model.specs.Rules.{write_open}

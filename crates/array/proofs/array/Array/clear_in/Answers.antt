@@ -1,5 +1,4 @@
-use Rattle.std.proofs.Common.{◌≡◌, ltb, [], ◌∷◌, Some, subst, inl, inr}
-use Rattle.backplane.specs.Plane.{to_cell}
+use Rattle.std.proofs.Common.{ltb, [], ◌∷◌, Some, subst, inr}
 use Rattle.backplane.specs.Meaning.{Bytes}
 use Rattle.layout.specs.declared.header.Header.{Header}
 use Rattle.layout.specs.Counts.{lowest}

@@ -1,4 +1,4 @@
-use Rattle.std.proofs.Common.{◌≡◌, true, false, not, ltb, [], ◌∷◌, Some, sym, ap, ◌∙◌, subst, inl, inr}
+use Rattle.std.proofs.Common.{◌≡◌, false, not, ltb, [], ◌∷◌, Some, sym, ap, ◌∙◌, subst, inr}
 use Rattle.backplane.specs.Meaning.{Fitting}
 use Rattle.layout.specs.declared.header.Header.{Header}
 use Rattle.layout.specs.Header.{with_good}

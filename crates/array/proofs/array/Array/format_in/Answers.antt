@@ -1,4 +1,4 @@
-use Rattle.std.proofs.Common.{◌≡◌, ℕ, true, not, ltb, Some, None, ap, subst, inl, inr, arith}
+use Rattle.std.proofs.Common.{◌≡◌, ℕ, true, not, ltb, Some, None, ap, subst, inr, arith}
 use Rattle.backplane.specs.Plane.{switched}
 use Rattle.backplane.specs.Meaning.{Bytes}
 use Rattle.layout.specs.declared.shape.Shape.{Shape}
