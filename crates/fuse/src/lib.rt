@@ -1,7 +1,7 @@
 // A layer over any backplane that cuts the power at a set store.
 #![tactic(auto)]
 
-ghost use Rattle.std.specs.Prelude.{◌≡◌, ◌≤◌, min, true, false, leb, [], length, if◌then◌else◌, Some, None};
+ghost use Rattle.std.specs.Prelude.{◌≡◌, ◌≤◌, min, true, false, nat_le, [], length, if◌then◌else◌, Some, None};
 ghost use Rattle.backplane.specs.Plane.{to_block, to_cell, pulled, switched};
 ghost use Rattle.backplane.specs.Meaning.{Stored, Read, Fitted};
 ghost use Rattle.fuse.specs.Fused.{mixed, cutting, counted, fusing, seen, over, lit, CutAt, Fused};
@@ -74,7 +74,7 @@ impl<B: Backplane> Fuse<B> {
     // In place of any earlier setting, with the power on or off. More than 512 bytes are refused, and the setting stays.
     pub fn set(&mut self, passes: u32, kept: u32) -> Result<(), FuseFault>
         ensures answer { result ≡ settable kept }
-        ensures setting { self.new.setting ≡ (if leb kept 512 then Some (record { passes = passes; kept = kept }) else self.old.setting) }
+        ensures setting { self.new.setting ≡ (if nat_le kept 512 then Some (record { passes = passes; kept = kept }) else self.old.setting) }
         ensures below { self.new.below ≡ self.old.below }
         ensures on { self.new.on ≡ self.old.on }
     {

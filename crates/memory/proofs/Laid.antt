@@ -6,7 +6,7 @@ use Rattle.std.proofs.lemmas.List.{get_or-set_same, get_or-set_other, length-rep
 use Rattle.std.proofs.lemmas.Bool.{cases_order, cases_Bool, eq-eqb, lt-ltb, ltb-true, eqb-true, eqb-false, and_parts, and_from, and_left, le-ltb, cond-true, cond-false, both_ways, false≢true}
 use Rattle.backplane.specs.Plane.{to_block, to_cell, stored, fitted}
 use Rattle.backplane.specs.Meaning.{Sound}
-use Rattle.memory.specs.Lent.{part, with_part, block_at, cell_at, alive, is_laid_out}
+use Rattle.memory.specs.Lent.{part, with_part, block_at, cell_at, alive, laid_out}
 use Rattle.memory.proofs.Parts.{part-here, part-elsewhere, part_filled, length_part, low_part}
 
 -- places apart
@@ -27,7 +27,7 @@ cond_step false false x y z f g = refl
 module _ (bytes : List ℕ) (n s c : ℕ) (on : Bool) (live : List Bool) (fit : 512 * (n * s + c) ≤ length bytes) where
   module _ (x : List ℕ) (long : length x ≡ 512) where
     pub stored-block : (d b : ℕ) → alive n live d ≡ true → b < s
-        → is_laid_out (with_part (block_at s d b) 512 x bytes) n s c on live ≡ stored (to_block d b x) (is_laid_out bytes n s c on live)
+        → laid_out (with_part (block_at s d b) 512 x bytes) n s c on live ≡ stored (to_block d b x) (laid_out bytes n s c on live)
     stored-block d b a h =
         let dn : d < n = ltb-true d n (and_parts (ltb d n) (get_or live d false) a).0 in
         let inn : d * s + b < n * s = digits_lt dn h in
@@ -48,7 +48,7 @@ module _ (bytes : List ℕ) (n s c : ℕ) (on : Bool) (live : List Bool) (fit : 
         λ k. record { slots = n; blocks = s; cells = c; on = on; live = alive n live; block = λ i j. blk i j k; cell = λ i. cel i k }
 
     pub stored-cell : (e : ℕ) → e < c
-        → is_laid_out (with_part (cell_at n s e) 512 x bytes) n s c on live ≡ stored (to_cell e x) (is_laid_out bytes n s c on live)
+        → laid_out (with_part (cell_at n s e) 512 x bytes) n s c on live ≡ stored (to_cell e x) (laid_out bytes n s c on live)
     stored-cell e h =
         let m : List ℕ = with_part (cell_at n s e) 512 x bytes in
         let t : ℕ → ℕ → Bool = λ i j. alive n live i && ltb j s in
@@ -66,7 +66,7 @@ module _ (bytes : List ℕ) (n s c : ℕ) (on : Bool) (live : List Bool) (fit : 
         (λ u y. part-elsewhere 512 bytes x (cell_at n s e) (cell_at n s i) long (omega arith) (away (n * s + i) (n * s + e) (λ q. eqb-false i e u (omega arith)))) in
         λ k. record { slots = n; blocks = s; cells = c; on = on; live = alive n live; block = λ i j. blk i j k; cell = λ i. cel i k }
 
-  pub sound-laid : AllByRecursion (λ x. x < 256) bytes → Sound (is_laid_out bytes n s c on live)
+  pub sound-laid : AllByRecursion (λ x. x < 256) bytes → Sound (laid_out bytes n s c on live)
   sound-laid low = record {
     blocks = λ d b h k l.
         let i : d * s + b < n * s = digits_lt h k in
@@ -106,10 +106,10 @@ module _ (bytes : List ℕ) (n s c : ℕ) (on : Bool) (live : List Bool) (fit : 
             ∙ on-other (alive n live i && ltb j s) i j (eqb-false i d e) refl ∙ sym (cond-false (eqb i d) _ _ e)
       ]
 
-      pub life-set : is_laid_out m n s c on (set live d v) ≡ fitted d v x (is_laid_out bytes n s c on live)
+      pub life-set : laid_out m n s c on (set live d v) ≡ fitted d v x (laid_out bytes n s c on live)
       life-set = λ k. record { slots = n; blocks = s; cells = c; on = on; live = λ i. alive-set i k; block = λ i j. block-set i j k; cell = λ i. cond (ltb i c) (kept i k) [] }
 
-  pub pulled-slot : (d : ℕ) → d < n → d < length live → is_laid_out bytes n s c on (set live d false) ≡ fitted d false (λ _. []) (is_laid_out bytes n s c on live)
+  pub pulled-slot : (d : ℕ) → d < n → d < length live → laid_out bytes n s c on (set live d false) ≡ fitted d false (λ _. []) (laid_out bytes n s c on live)
   pulled-slot d h l = life-set d false h l bytes (λ _. []) (λ j. refl) (λ i j _ _ _. refl) (λ i. refl)
 
   -- a disk of one byte throughout
@@ -140,7 +140,7 @@ module _ (bytes : List ℕ) (n s c : ℕ) (on : Bool) (live : List Bool) (fit : 
           ]
         ])
 
-    pub fitted-slot : is_laid_out disk n s c on (set live d true) ≡ fitted d true (λ j. cond (ltb j s) (replicate 512 y) []) (is_laid_out bytes n s c on live)
+    pub fitted-slot : laid_out disk n s c on (set live d true) ≡ fitted d true (λ j. cond (ltb j s) (replicate 512 y) []) (laid_out bytes n s c on live)
     fitted-slot =
         life-set d true h l disk (λ j. cond (ltb j s) (replicate 512 y) []) (λ j. on-disk (ltb j s) j refl) off-disk
         (λ i. let r = room in part-elsewhere (512 * s) bytes (replicate (512 * s) y) (block_at s d 0) (cell_at n s i) (length-replicate (512 * s) y) (omega arith) (inr (omega arith)))

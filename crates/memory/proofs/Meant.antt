@@ -8,7 +8,7 @@ use Rattle.backplane.specs.declared.fault.BackplaneFault.{BackplaneFault}
 use Rattle.backplane.specs.Plane.{Store, to_block, to_cell, content, placed, stored, fitted, pulled}
 use Rattle.backplane.specs.Meaning.{fault_of, fit_fault, Stored, Read, Fitted, Fitting, Sound}
 use Rattle.backplane.proofs.Free.{free-block, free-cell, free-slot, faulted}
-use Rattle.memory.specs.Lent.{part, with_part, block_at, cell_at, fits_memory, alive, is_laid_out}
+use Rattle.memory.specs.Lent.{part, with_part, block_at, cell_at, fits_memory, alive, laid_out}
 use Rattle.memory.specs.Held.{Held, in_force, view_of, with_bytes, with_lives, place_in, StoredIn, ReadFrom, filled, FittedIn, pulled_in}
 use Rattle.memory.proofs.Parts.{length-with, low-filled}
 use Rattle.memory.proofs.Laid.{stored-block, stored-cell, sound-laid, pulled-slot, fitted-slot}
@@ -54,10 +54,10 @@ at_most h = few (fits_memory h.slots h.blocks h.cells (length h.bytes)) h.slots 
 
 -- other bytes of the same length
 same-sizes : (h : Held) (xs : List ℕ) (live : List Bool) → length xs ≡ length h.bytes
-    → view_of (with_lives live (with_bytes xs h)) ≡ is_laid_out xs (slots_in h) (blocks_in h) (cells_in h) h.on live
+    → view_of (with_lives live (with_bytes xs h)) ≡ laid_out xs (slots_in h) (blocks_in h) (cells_in h) h.on live
 same-sizes h xs live e =
     let f : ℕ → Bool = λ len. fits_memory h.slots h.blocks h.cells len in
-    λ i. is_laid_out xs (cond (f (e i)) h.slots 0) (cond (f (e i)) h.blocks 0) (cond (f (e i)) h.cells 0) h.on live
+    λ i. laid_out xs (cond (f (e i)) h.slots 0) (cond (f (e i)) h.blocks 0) (cond (f (e i)) h.cells 0) h.on live
 
 pub sound : (h : Held) → ((i : ℕ) → i < length h.bytes → get_or h.bytes i 0 < 256) → Sound (view_of h)
 sound h low =

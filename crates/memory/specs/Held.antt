@@ -4,7 +4,7 @@ use Rattle.backplane.specs.declared.fault.BackplaneFault.{BackplaneFault}
 use Rattle.backplane.specs.Plane.{Store, to_block, to_cell, content}
 use Rattle.backplane.specs.Meaning.{Bytes, fault_of, fit_fault}
 use Rattle.memory.specs.declared.Memory.{Memory}
-use Rattle.memory.specs.Lent.{part, with_part, block_at, cell_at, fits_memory, is_laid_out}
+use Rattle.memory.specs.Lent.{part, with_part, block_at, cell_at, fits_memory, laid_out}
 
 pub record Held : Type 0 where
   pub bytes : List ℕ
@@ -24,7 +24,7 @@ in_force h x = cond (fits_memory h.slots h.blocks h.cells (length h.bytes)) x 0
 
 -- the view of a backplane
 abbrev pub view_of : Held → Bytes
-view_of h = is_laid_out h.bytes (in_force h h.slots) (in_force h h.blocks) (in_force h h.cells) h.on h.live
+view_of h = laid_out h.bytes (in_force h h.slots) (in_force h h.blocks) (in_force h h.cells) h.on h.live
 
 abbrev pub with_bytes : List ℕ → Held → Held
 with_bytes x h = record { bytes = x; slots = h.slots; blocks = h.blocks; cells = h.cells; on = h.on; live = h.live }

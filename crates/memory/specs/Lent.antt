@@ -26,8 +26,8 @@ abbrev pub alive : ℕ → List Bool → ℕ → Bool
 alive n live d = nat_lt d n && slice_index_or live d false
 
 -- a backplane of these sizes in these bytes; what is on a dead slot is gone
-abbrev pub is_laid_out : List ℕ → ℕ → ℕ → ℕ → Bool → List Bool → Bytes
-is_laid_out bytes n s c on live = record {
+abbrev pub laid_out : List ℕ → ℕ → ℕ → ℕ → Bool → List Bool → Bytes
+laid_out bytes n s c on live = record {
   slots = n;
   blocks = s;
   cells = c;
