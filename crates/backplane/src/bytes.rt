@@ -8,6 +8,9 @@ pub fn below_256(bytes: &[u8])
 {
     if bytes.len() > 0 {
         let _first = bytes[0];
+    } else {
+        // no slice with an element goes unread
+        prove!(bytes.len() == 0);
     }
 }
 

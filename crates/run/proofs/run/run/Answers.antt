@@ -1,4 +1,4 @@
-use Rattle.std.proofs.Common.{length, vec_items, ap, ◌∙◌}
+use Rattle.std.proofs.Common.{rules, ◌≡◌, length, vec_items, ap, ◌∙◌, Ok}
 use Rattle.std.proofs.lemmas.Result.{err_from_is_err_and}
 use Rattle.model.specs.ByteLaws.{ByteLaws}
 use Rattle.run.proofs.Work.{wiped-length}
@@ -15,10 +15,12 @@ laws g =
 pub returns : goal.returns
 returns g c =
     let w = c.args.work.now in
-    let wiped = c.in_ok-format.ensures.area in
+    let wiped = c.format.ensures.area in
+    -- the list of calls is made only where the format was done
+    let done : c.format.result ≡ Ok tt = search rules in
     record {
       does = kept-all g.B.Backplane g.C.Code (laws g) c.args.array.now c.format.new.self c.make_all.new.array (length c.format.new.work) (length w)
-          (ap length wiped ∙ wiped-length w) c.keeps_sound.ensures c.in_ok-format.ensures.does
+          (ap length wiped ∙ wiped-length w) c.keeps_sound.ensures (rw done at c.format.ensures.does)
           c.args.calls.now (vec_items c.in_ok-make_all.field-0) c.in_ok-make_all.ensures.does;
       area = c.in_ok-make_all.ensures.area ∙ wiped;
     }
