@@ -3,7 +3,7 @@ ghost use Rattle.std.specs.Prelude.{◌≡◌, ℕ, ◌+◌, ◌<◌, ◌≤◌,
 ghost use Rattle.codes.specs.Code.{solvable};
 ghost use Rattle.codes.specs.Double.{double, divided, lone, former, data_two, solved_two};
 ghost use Rattle.codes.specs.DoubleLaws.{double-low, double-past, double-fill, double-zero, double-adds, double-apart, double-solves};
-ghost use Rattle.std.proofs.Common.{rules};
+ghost use Rattle.std.proofs.Common.{lit<, lit≤};
 
 use crate::code::Code;
 use crate::row::{
@@ -83,9 +83,9 @@ impl Code for DoubleParity {
 
     ghost solved = { solved_two };
 
-    ghost named = { Prim.search rules };
+    ghost named = { lit< tt };
 
-    ghost few = { Prim.search rules };
+    ghost few = { (lit≤ tt, lit≤ tt) };
 
     ghost low = { double-low };
 

@@ -3,7 +3,7 @@ ghost use Rattle.std.specs.Prelude.{◌≡◌, ℕ, ◌+◌, ◌<◌, ◌≤◌,
 ghost use Rattle.codes.specs.Code.{solvable};
 ghost use Rattle.codes.specs.Single.{single, data_one, solved_one};
 ghost use Rattle.codes.specs.SingleLaws.{single-low, single-past, single-fill, single-zero, single-adds, single-apart, single-solves};
-ghost use Rattle.std.proofs.Common.{rules};
+ghost use Rattle.std.proofs.Common.{lit<, lit≤};
 
 use crate::code::Code;
 use crate::row::{can_solve, clear_lost, next_lost, plain_share, put_lost, sum_of};
@@ -47,9 +47,9 @@ impl Code for SingleParity {
 
     ghost solved = { solved_one };
 
-    ghost named = { Prim.search rules };
+    ghost named = { lit< tt };
 
-    ghost few = { Prim.search rules };
+    ghost few = { (lit≤ tt, lit≤ tt) };
 
     ghost low = { single-low };
 
