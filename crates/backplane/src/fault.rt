@@ -2,15 +2,18 @@
 ghost use Rattle.std.specs.Prelude.{◌≡◌};
 ghost use Rattle.backplane.specs.Faults.{number, detail_a, detail_b};
 
+use std::error::Error;
+use std::fmt;
+
 // The place of a store.
-#[derive(Clone, Copy)]
+#[derive(Clone, Copy, Debug, PartialEq, Eq)]
 pub enum Place {
     // slot and block
     OfBlock(u32, u32),
     OfCell(u32),
 }
 
-#[derive(Clone, Copy)]
+#[derive(Clone, Copy, Debug, PartialEq, Eq)]
 pub enum BackplaneFault {
     // the power is off
     Off,
@@ -50,3 +53,25 @@ impl BackplaneFault {
         }
     }
 }
+
+impl fmt::Display for BackplaneFault {
+    fn fmt<W: fmt::Write>(&self, f: &mut fmt::Formatter<W>) -> fmt::Result {
+        match *self {
+            BackplaneFault::Off => write!(f, "backplane: the power is off"),
+            BackplaneFault::NoPlace => write!(f, "backplane: no such place"),
+            BackplaneFault::Dead => write!(f, "backplane: the disk is dead"),
+            BackplaneFault::Live => write!(f, "backplane: the disk is live"),
+            BackplaneFault::Cut(Place::OfBlock(slot, block)) => {
+                write!(
+                    f,
+                    "backplane: the power failed at block {block} of slot {slot}"
+                )
+            }
+            BackplaneFault::Cut(Place::OfCell(cell)) => {
+                write!(f, "backplane: the power failed at cell {cell}")
+            }
+        }
+    }
+}
+
+impl Error for BackplaneFault {}

@@ -7,6 +7,7 @@ ghost use Rattle.backplane.specs.Meaning.{Bytes, Stored, Read, Fitted, Sound};
 
 pub mod bytes;
 pub mod fault;
+pub mod sizes;
 
 use fault::BackplaneFault;
 
