@@ -1,19 +1,19 @@
 -- What the functions compute, as the definitions have it: a row's data and its checks are two lists there.
-use Rattle.std.proofs.Common.{[], ◌∷◌, zero-add, add-zero, add_assoc, ◌≡◌, ℕ, zero, suc, ◌+◌, ◌-◌, ◌*◌, ◌%◌, ◌<◌, ◌≤◌, Bool, true, false, ◌&&◌, cond, ltb, leb, eqb, ◌⊎◌, List, ◌++◌, length, get_or, take, drop, set, replicate, sym, refl, ap, ◌∙◌, inl, inr, add-one, arith, rules}
+use Rattle.std.proofs.Common.{[], ◌∷◌, zero-add, add-zero, add_assoc, ◌≡◌, ℕ, zero, suc, ◌+◌, ◌-◌, ◌*◌, ◌%◌, ◌<◌, ◌≤◌, Bool, true, false, ◌&&◌, cond, ltb, leb, eqb, ◌⊎◌, List, ◌++◌, length, get_or, take, set, sym, refl, ap, ◌∙◌, inl, inr, add-one, arith}
 use lib.Bits.{bit_xor, xor_assoc, xor_zero_r, xor_zero_l}
 use Rattle.std.specs.List.{count_by, fold}
 use Rattle.std.proofs.lemmas.Nat.{xor_comm}
 use Rattle.std.proofs.Math.Seq.{take-append_seam}
 use Rattle.std.proofs.lemmas.Bool.{true≢false, and_parts, leb-true, eqb-true, cases_lt, cond-true, cond-false, lt-ltb, le-ltb}
-use Rattle.std.proofs.lemmas.List.{length-take-le, length-append, get_or-take, get_or_past, get_or-append-add, ext_get_or, set-append_left, set-append_right, length-set}
+use Rattle.std.proofs.lemmas.List.{length-append, get_or-take, get_or_past, get_or-append-add, ext_get_or, set-append_left, set-append_right, length-set}
 use Rattle.field.specs.Field.{exp, times}
 use Rattle.field.proofs.Rules.{exp-mod}
 use Rattle.field.proofs.Laws.{times-zero-r}
-use Rattle.codes.specs.Code.{alone, coded, lost_at, lost_count, solvable, codable}
+use Rattle.codes.specs.Code.{alone, coded, lost_at, lost_count, codable}
 use Rattle.codes.specs.Sums.{sum_to, total, weighted}
 use Rattle.codes.specs.Solving.{next_lost, cleared, gap, remade, completed}
 use Rattle.codes.specs.Single.{single, fill_one, data_one}
-use Rattle.codes.specs.Double.{double, lone, unless, former, pair, fill_two, data_two}
+use Rattle.codes.specs.Double.{double, lone, unless, former, fill_two, data_two}
 use Rattle.codes.specs.SumsLemmas.{sum_same, sum-start, sum-none, sum-cut}
 use Rattle.codes.specs.Weights.{total-linear, weighted-linear}
 use Rattle.codes.specs.Steps.{Next, next-lost, cleared-length, remade-length, remade-lost, remade-take}

@@ -1,4 +1,7 @@
 // Why a row is left as it was.
+ghost use Rattle.std.specs.Prelude.{Some};
+ghost use Rattle.codes.specs.Fault.{shown};
+
 use std::error::Error;
 use std::fmt;
 
@@ -11,6 +14,8 @@ pub enum RowFault {
 }
 
 impl fmt::Display for RowFault {
+    ghost output = { λ f. Some (shown f) };
+
     fn fmt<W: fmt::Write>(&self, f: &mut fmt::Formatter<W>) -> fmt::Result {
         f.write_str(match self {
             RowFault::Unsolvable => "row: not to be solved by this code",

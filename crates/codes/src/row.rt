@@ -51,7 +51,7 @@ pub(crate) fn check_at(checks: &[u8], r: usize) -> u8
     checks.get(r).copied().unwrap_or(0)
 }
 
-// The sum of the data bytes.
+// The sum of the data bytes. It is no `weighted_of(0, ..)`, which would look up two tables for each byte to multiply it by 1.
 pub(crate) fn sum_of(bytes: &[u8]) -> u8
     ensures { result ≡ total bytes.now }
 {
@@ -72,7 +72,7 @@ pub(crate) fn weighted_of(step: usize, bytes: &[u8]) -> u8
     s
 }
 
-// What `b` at column `j` adds to the sum.
+// What `b` at column `j` adds to the sum. It is no `weighted_share(0, ..)`, for the same reason.
 pub(crate) fn plain_share(j: usize, b: u8) -> u8
     ensures { result ≡ (if nat_lt j 12 then total (alone j b) else 0) }
 {

@@ -1,6 +1,6 @@
 -- 0 by the tables' rule, or the power at the sum of the exponents; and either is the product of polynomials.
-use Rattle.std.proofs.Common.{◌≡◌, ℕ, ◌<◌, sym, ◌∙◌, rules}
-use Rattle.field.specs.Field.{times, polynomial}
+use Rattle.std.proofs.Common.{◌≡◌, sym, ◌∙◌, rules}
+use Rattle.field.specs.Field.{times}
 use Rattle.field.proofs.Laws.{times-zero-l, times-zero-r}
 use Rattle.field.proofs.Products.{polynomial-is}
 use Rattle.field.proofs.product.Goals as goal

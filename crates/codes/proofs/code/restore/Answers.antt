@@ -1,4 +1,4 @@
-use Rattle.std.proofs.Common.{is_ok, IsOk, IsOkUnless, rules}
+use Rattle.std.proofs.Common.{is_ok, rules}
 use Rattle.codes.specs.Code.{Bytes, Solved}
 use Rattle.codes.proofs.Unique.{call_fits, call-only, call-restored}
 use Rattle.codes.proofs.code.restore.Goals as goal

@@ -1,4 +1,3 @@
-use Rattle.std.proofs.Common.{ap, ◌∙◌}
 use Rattle.codes.proofs.Filling.{one-lost, one-none}
 use Rattle.codes.proofs.single.SingleParityCode.fill_data.Goals as goal
 
