@@ -12,8 +12,8 @@ use Rattle.field.proofs.Laws.{times-byte, times-adds, times-comm, exp-different}
 use Rattle.field.proofs.Products.{times_none, times-cancel, times-over}
 use Rattle.codes.specs.Code.{Bytes, plus, filled, count, Apart, lost_at, solvable, Lowest, Solves}
 use Rattle.codes.specs.Sums.{total, weighted}
-use Rattle.codes.specs.Solving.{next_lost, cleared, gap}
-use Rattle.codes.specs.Double.{double, divided, lone, former, pair, fill_two, data_two, solved_two}
+use Rattle.codes.specs.Solving.{next_lost, cleared, gap, completed}
+use Rattle.codes.specs.Double.{double, divided, lone, unless, former, pair, fill_two, data_two, solved_two}
 use Rattle.codes.specs.SumsLemmas.{cancel, same_sum, back, middle}
 use Rattle.codes.specs.Weights.{Linear, plain, powers-of, total-linear, weighted-linear}
 use Rattle.codes.specs.Counts.{count-zero, count-one, two-places}
@@ -213,21 +213,21 @@ module _ (k : ℕ) (row : List ℕ) (lost : List Bool) (can : Fit 2 k (length ro
   x-byte : x < 256
   x-byte = divided-byte (bit_xor q (times (exp j) p)) (bit_xor (exp i) (exp j))
 
-  lone-byte : (t : Bool) → lone i t p q < 256
+  lone-byte : (t : Bool) → lone i (unless t p) q < 256
   lone-byte true = divided-byte q (exp i)
   lone-byte false = p-byte
 
   abbrev filling : Bool → Bool → Bool → List ℕ
-  filling s t u = cond s (cond t (pair i j p q z) (slice_set z i (lone i u p q))) z
+  filling s t u = cond s (cond t (pair i j p q z) (slice_set z i (lone i (unless u p) q))) z
 
   wide_at : (s t u : Bool) → length (filling s t u) ≡ length row
   wide_at true true u = length-set (slice_set z i x) j (bit_xor p x) ∙ length-set z i x ∙ cleared-length lost k row
-  wide_at true false u = length-set z i (lone i u p q) ∙ cleared-length lost k row
+  wide_at true false u = length-set z i (lone i (unless u p) q) ∙ cleared-length lost k row
   wide_at false t u = cleared-length lost k row
 
   bytes-at : (s t u : Bool) → Bytes (filling s t u)
   bytes-at true true u = set-bytes (slice_set z i x) j (bit_xor p x) (set-bytes z i x z-bytes x-byte) (xor_lt 8 p x p-byte x-byte)
-  bytes-at true false u = set-bytes z i (lone i u p q) z-bytes (lone-byte u)
+  bytes-at true false u = set-bytes z i (lone i (unless u p) q) z-bytes (lone-byte u)
   bytes-at false t u = z-bytes
 
   i-lost : i < k → lost_at lost i ≡ true
@@ -244,7 +244,7 @@ module _ (k : ℕ) (row : List ℕ) (lost : List Bool) (can : Fit 2 k (length ro
       let hi = ltb-true i k a in
       let hj = ltb-true j k b in
       get_or-set_other (slice_set z i x) j c (bit_xor p x) 0 (away j c hj (j-lost hi hj) h) ∙ get_or-set_other z i c x 0 (away i c hi (i-lost hi) h) ∙ cleared-kept lost k row c h
-  kept_at true false u a b c h = let hi = ltb-true i k a in get_or-set_other z i c (lone i u p q) 0 (away i c hi (i-lost hi) h) ∙ cleared-kept lost k row c h
+  kept_at true false u a b c h = let hi = ltb-true i k a in get_or-set_other z i c (lone i (unless u p) q) 0 (away i c hi (i-lost hi) h) ∙ cleared-kept lost k row c h
   kept_at false t u a b c h = cleared-kept lost k row c h
 
   check-kept : (r : ℕ) → slice_index z (k + r) ≡ slice_index row (k + r)
@@ -279,10 +279,10 @@ module _ (k : ℕ) (row : List ℕ) (lost : List Bool) (can : Fit 2 k (length ro
       (former-is i j p q (let f = can.most in omega arith) (let f = can.most in omega arith) (λ e. let f = v.from in omega arith) p-byte q-byte)
       ∙ back (weighted 1 (take k z)) (slice_index z (k + 1)) ∙ check-kept 1
 
-  lone-p : i < k → total (take k (slice_set z i (lone i false p q))) ≡ slice_index row (k + 0)
+  lone-p : i < k → total (take k (slice_set z i (lone i (unless false p) q))) ≡ slice_index row (k + 0)
   lone-p h = put-p h p ∙ back (total (take k z)) (slice_index z (k + 0)) ∙ check-kept 0
 
-  lone-q : i < k → weighted 1 (take k (slice_set z i (lone i true p q))) ≡ slice_index row (k + 1)
+  lone-q : i < k → weighted 1 (take k (slice_set z i (lone i (unless true p) q))) ≡ slice_index row (k + 1)
   lone-q h =
       put-q h (divided q (exp i)) ∙ ap (bit_xor (weighted 1 (take k z))) (divided-back q (exp i) q-byte (exp-byte i).0 (exp-byte i).1)
       ∙ back (weighted 1 (take k z)) (slice_index z (k + 1)) ∙ check-kept 1
@@ -318,3 +318,7 @@ module _ (k : ℕ) (row : List ℕ) (lost : List Bool) (can : Fit 2 k (length ro
 
 pub double-solves : (k : ℕ) (row : List ℕ) (lost : List Bool) → solvable 2 k (length row) lost ≡ true → Bytes row → Solves double 2 k row lost (solved_two k row lost)
 double-solves k row lost h bytes = two-solves k row lost (fit 2 k (length row) lost h) bytes
+
+pub double-completes : (k : ℕ) (row : List ℕ) (lost : List Bool) → solved_two k row lost ≡ completed double 2 k lost (data_two k row lost)
+unfolding solved_two
+double-completes k row lost = refl

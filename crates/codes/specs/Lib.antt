@@ -1,4 +1,5 @@
 pub mod Code
+pub mod Fault
 pub mod Sums
 pub mod Solving
 pub mod Single

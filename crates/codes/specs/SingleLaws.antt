@@ -6,7 +6,7 @@ use Rattle.std.proofs.lemmas.Bool.{cases_eq, cases_lt, ltb-true, ltb-false, true
 use Rattle.std.proofs.lemmas.List.{get_or-take, get_or_past, length-take, get_or-set_same, get_or-set_other, length-set}
 use Rattle.codes.specs.Code.{Bytes, plus, filled, Apart, lost_at, solvable, Lowest, Solves}
 use Rattle.codes.specs.Sums.{total}
-use Rattle.codes.specs.Solving.{next_lost, cleared, gap}
+use Rattle.codes.specs.Solving.{next_lost, cleared, gap, completed}
 use Rattle.codes.specs.Single.{single, fill_one, data_one, solved_one}
 use Rattle.codes.specs.SumsLemmas.{same_sum, back}
 use Rattle.codes.specs.Weights.{Linear, plain, total-linear}
@@ -123,3 +123,7 @@ module _ (k : ℕ) (row : List ℕ) (lost : List Bool) (can : Fit 1 k (length ro
 
 pub single-solves : (k : ℕ) (row : List ℕ) (lost : List Bool) → solvable 1 k (length row) lost ≡ true → Bytes row → Solves single 1 k row lost (solved_one k row lost)
 single-solves k row lost h bytes = one-solves k row lost (fit 1 k (length row) lost h) bytes
+
+pub single-completes : (k : ℕ) (row : List ℕ) (lost : List Bool) → solved_one k row lost ≡ completed single 1 k lost (data_one k row lost)
+unfolding solved_one
+single-completes k row lost = refl

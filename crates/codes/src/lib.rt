@@ -3,9 +3,11 @@
 
 mod code;
 mod double;
+mod fault;
 mod row;
 mod single;
 
 pub use code::{Code, encode, restore};
 pub use double::DoubleParity;
+pub use fault::RowFault;
 pub use single::SingleParity;

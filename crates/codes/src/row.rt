@@ -1,7 +1,7 @@
-// Steps of solving a row that all codes share.
-ghost use Rattle.std.specs.Prelude.{◌≡◌, ℕ, ◌+◌, ◌-◌, ◌*◌, ◌<◌, ◌≤◌, true, length, drop, if◌then◌else◌, nat_lt, slice_index};
-ghost use Rattle.codes.specs.Code.{alone, lost_at, lost_count, solvable};
-ghost use Rattle.codes.specs.Solving.{next_lost, cleared, remade};
+// Steps of solving a row that codes share.
+ghost use Rattle.std.specs.Prelude.{◌≡◌, ℕ, ◌+◌, ◌-◌, ◌*◌, ◌<◌, ◌≤◌, true, length, drop, if◌then◌else◌, nat_lt, slice_index, IfSome, IfNone};
+ghost use Rattle.codes.specs.Code.{alone, lost_at, lost_count};
+ghost use Rattle.codes.specs.Solving.{next_lost, cleared};
 ghost use Rattle.codes.specs.Sums.{total, weighted};
 
 use field::scaled;
@@ -13,91 +13,50 @@ pub(crate) const COLUMNS: usize = 12;
 pub(crate) fn is_lost(lost: &[bool], c: usize) -> bool
     ensures { result ≡ lost_at lost.now c }
 {
-    c < lost.len() && lost[c]
+    lost.get(c).copied().unwrap_or(false)
 }
 
-pub(crate) fn lost_places(lost: &[bool]) -> usize
-    ensures bound { result ≤ length lost.now }
-    ensures value { result ≡ lost_count lost.now }
+// How many places from `from` on are lost.
+pub(crate) fn lost_places(lost: &[bool], from: usize) -> usize
+    ensures { result ≡ lost_count (drop from lost.now) }
 {
-    let mut n = 0;
-    for l in lost {
-        if *l {
-            n += 1;
-        }
-    }
-    n
+    let from = from.min(lost.len());
+    lost[from..].iter().filter(|l| **l).count()
 }
 
-// Whether a place from `n` on is lost.
-fn lost_past(lost: &[bool], n: usize) -> usize
-    ensures { result ≡ lost_count (drop n lost.now) }
+// The first lost place from `from` on and below `to`.
+pub(crate) fn next_lost(lost: &[bool], from: usize, to: usize) -> Option<usize>
+    ensures place { IfSome result (λ c. c ≡ next_lost lost.now from (to - from)) }
+    ensures below { IfSome result (λ c. c < to) }
+    ensures none { IfNone result (to ≤ next_lost lost.now from (to - from)) }
 {
-    if n < lost.len() {
-        lost_places(&lost[n..])
-    } else {
-        0
-    }
+    (from..to).find(|c| is_lost(lost, *c))
 }
 
-// Whether a row of `n` bytes can be solved by a code of so many check rows.
-pub(crate) fn can_solve(rows: usize, k: usize, n: usize, lost: &[bool]) -> bool
-    requires { rows ≤ 4 }
-    ensures { result ≡ solvable rows k n lost.now }
+// Puts 0 in the lost places.
+pub(crate) fn clear_lost(bytes: &mut [u8], lost: &[bool])
+    ensures { bytes.new ≡ cleared lost.now (length bytes.old) bytes.old }
 {
-    2 <= k
-        && k <= COLUMNS
-        && n == k + rows
-        && lost_past(lost, k + rows) == 0
-        && lost_places(lost) <= rows
-}
-
-// The first lost place from `from` on below `to`, or `to`.
-pub(crate) fn next_lost(lost: &[bool], from: usize, to: usize) -> usize
-    requires { from ≤ to }
-    ensures { result ≡ next_lost lost.now from (to - from) }
-{
-    let mut c = from;
-    while c < to && !is_lost(lost, c) {
-        c += 1;
-    }
-    c
-}
-
-// Puts 0 in the lost places below `n`.
-pub(crate) fn clear_lost(n: usize, row: &mut [u8], lost: &[bool])
-    requires { n ≤ length row.old }
-    ensures { row.new ≡ cleared lost.now n row.old }
-{
-    for c in 0..n {
+    for (c, b) in bytes.iter_mut().enumerate() {
         if is_lost(lost, c) {
-            row[c] = 0;
+            *b = 0;
         }
     }
 }
 
-// Puts the checks into the lost check places.
-pub(crate) fn put_lost(rows: usize, k: usize, row: &mut [u8], lost: &[bool], checks: &[u8])
-    requires { (k + rows ≤ length row.old) × (rows ≤ length checks.now) }
-    ensures { row.new ≡ remade (λ r. slice_index checks.now r) k lost.now rows row.old }
+// The check of row `r`, and 0 past the rows.
+pub(crate) fn check_at(checks: &[u8], r: usize) -> u8
+    ensures { result ≡ slice_index checks.now r }
 {
-    for r in 0..rows {
-        if is_lost(lost, k + r) {
-            row[k + r] = checks[r];
-        }
-    }
+    checks.get(r).copied().unwrap_or(0)
 }
 
-// The sum of the data bytes.
+// The sum of the data bytes. It is no `weighted_of(0, ..)`, which would look up two tables for each byte to multiply it by 1.
 pub(crate) fn sum_of(bytes: &[u8]) -> u8
     ensures { result ≡ total bytes.now }
 {
     let n = bytes.len().min(COLUMNS);
-    let mut s = 0;
-    for j in 0..n {
-        s ^= bytes[j];
-    }
-    s
+    bytes[..n].iter().fold(0, |s, b| s ^ b)
 }
 
 // The sum of E(step * j) times byte j.
@@ -107,13 +66,13 @@ pub(crate) fn weighted_of(step: usize, bytes: &[u8]) -> u8
 {
     let n = bytes.len().min(COLUMNS);
     let mut s = 0;
-    for j in 0..n {
-        s ^= scaled(step * j, bytes[j]);
+    for (j, b) in bytes[..n].iter().enumerate() {
+        s ^= scaled(step * j, *b);
     }
     s
 }
 
-// What `b` at column `j` adds to the sum.
+// What `b` at column `j` adds to the sum. It is no `weighted_share(0, ..)`, for the same reason.
 pub(crate) fn plain_share(j: usize, b: u8) -> u8
     ensures { result ≡ (if nat_lt j 12 then total (alone j b) else 0) }
 {

@@ -1,49 +1,27 @@
 // Code 1: one check byte, the sum of the data bytes. Any one byte of a row may be lost.
-ghost use Rattle.std.specs.Prelude.{◌≡◌, ℕ, ◌+◌, ◌<◌, ◌≤◌, true, length};
-ghost use Rattle.codes.specs.Code.{solvable};
+ghost use Rattle.std.specs.Prelude.{◌≡◌, ℕ};
 ghost use Rattle.codes.specs.Single.{single, data_one, solved_one};
-ghost use Rattle.codes.specs.SingleLaws.{single-low, single-past, single-fill, single-zero, single-adds, single-apart, single-solves};
+ghost use Rattle.codes.specs.SingleLaws.{single-low, single-past, single-fill, single-zero, single-adds, single-apart, single-solves, single-completes};
 ghost use Rattle.std.proofs.Common.{lit<, lit≤};
 
 use crate::code::Code;
-use crate::row::{can_solve, clear_lost, next_lost, plain_share, put_lost, sum_of};
+use crate::row::{check_at, clear_lost, next_lost, plain_share, sum_of};
 
-#[derive(Clone, Copy)]
+#[derive(Clone, Copy, Debug, PartialEq, Eq)]
 pub struct SingleParity;
-
-// Fills in a lost data byte: what the check lacks.
-fn fill_data(k: usize, row: &mut [u8], lost: &[bool])
-    requires { k < length row.old }
-    ensures { row.new ≡ data_one k row.old lost.now }
-{
-    clear_lost(k, row, lost);
-    let i = next_lost(lost, 0, k);
-    if i < k {
-        let missing = row[k] ^ sum_of(&row[0..k]);
-        row[i] = missing;
-    }
-}
-
-// Fills in a lost data byte, or makes the lost check from the data.
-fn fill_row(k: usize, row: &mut [u8], lost: &[bool])
-    requires { k < length row.old }
-    ensures { row.new ≡ solved_one k row.old lost.now }
-{
-    fill_data(k, row, lost);
-    let checks = [sum_of(&row[0..k])];
-    put_lost(1, k, row, lost, &checks);
-}
 
 impl Code for SingleParity {
     const NUMBER: u8 = 1;
 
     const ROWS: usize = 1;
 
-    ghost number = { 1 };
+    ghost NUMBER = { 1 };
 
-    ghost rows = { 1 };
+    ghost ROWS = { 1 };
 
     ghost check = { single };
+
+    ghost repaired = { data_one };
 
     ghost solved = { solved_one };
 
@@ -65,13 +43,7 @@ impl Code for SingleParity {
 
     ghost solves = { single-solves };
 
-    fn code_number() -> u8 {
-        <SingleParity as Code>::NUMBER
-    }
-
-    fn check_rows() -> usize {
-        <SingleParity as Code>::ROWS
-    }
+    ghost completes = { single-completes };
 
     fn check_byte(r: usize, bytes: &[u8]) -> u8 {
         if r == 0 { sum_of(bytes) } else { 0 }
@@ -81,11 +53,13 @@ impl Code for SingleParity {
         if r == 0 { plain_share(j, b) } else { 0 }
     }
 
-    fn solve(k: usize, row: &mut [u8], lost: &[bool]) -> bool {
-        if !can_solve(1, k, row.len(), lost) {
-            return false;
+    // A lost byte is what the check lacks.
+    fn fill_data(bytes: &mut [u8], checks: &[u8], lost: &[bool]) {
+        let k = bytes.len();
+        clear_lost(bytes, lost);
+        if let Some(i) = next_lost(lost, 0, k) {
+            let missing = check_at(checks, 0) ^ sum_of(bytes);
+            bytes[i] = missing;
         }
-        fill_row(k, row, lost);
-        true
     }
 }

@@ -1,7 +1,7 @@
 // The field of 256 elements over the polynomial 0x11D, by stored tables of powers and exponents.
 #![tactic(auto)]
 
-ghost use Rattle.std.specs.Prelude.{◌≡◌, ℕ, ◌+◌, ◌%◌, ◌<◌};
+ghost use Rattle.std.specs.Prelude.{◌≡◌, ℕ, ◌+◌, ◌%◌, ◌<◌, IfSome, IfNone};
 ghost use Rattle.field.specs.Field.{doubled, exp, log, log_of, times, reciprocal, inverse_of, quotient_of, polynomial};
 ghost use Rattle.field.specs.Laws.{FieldLaws, Order255};
 
@@ -20,13 +20,17 @@ fn entry(i: usize) -> u8
     EXP[i]
 }
 
-// The exponent of a byte above 0.
-fn exponent(b: u8) -> usize
-    requires { 0 < b }
-    ensures value { result ≡ log b }
-    ensures bound { result < 255 }
+// The exponent of `b`, which 0 has not.
+fn exponent(b: u8) -> Option<usize>
+    ensures value { IfSome result (λ e. e ≡ log b) }
+    ensures bound { IfSome result (λ e. e < 255) }
+    ensures above { IfSome result (λ _. 0 < b) }
+    ensures zero { IfNone result (b ≡ 0) }
 {
-    LOG[b as usize] as usize
+    if b == 0 {
+        return None;
+    }
+    Some(LOG[b as usize] as usize)
 }
 
 pub fn double(a: u8) -> u8
@@ -50,10 +54,7 @@ pub fn power(i: usize) -> u8
 pub fn logarithm(b: u8) -> Option<u8>
     ensures { result ≡ log_of b }
 {
-    if b == 0 {
-        return None;
-    }
-    Some(exponent(b) as u8)
+    Some(exponent(b)? as u8)
 }
 
 // The product, which is that of polynomials modulo 0x11D.
@@ -61,43 +62,38 @@ pub fn product(a: u8, b: u8) -> u8
     ensures value { result ≡ times a b }
     ensures polynomial { result ≡ polynomial 8 a b }
 {
-    if a == 0 || b == 0 {
-        return 0;
+    match (exponent(a), exponent(b)) {
+        (Some(i), Some(j)) => entry(i + j),
+        _ => 0,
     }
-    entry(exponent(a) + exponent(b))
 }
 
 // E(j mod 255) times `b`, with no look for the exponent of a power.
 pub fn scaled(j: usize, b: u8) -> u8
     ensures { result ≡ times (exp (j % 255)) b }
 {
-    if b == 0 {
-        return 0;
+    match exponent(b) {
+        Some(e) => entry(j % ORDER + e),
+        None => 0,
     }
-    entry(j % ORDER + exponent(b))
 }
 
 // 1 / a, which 0 has not.
 pub fn inverse(a: u8) -> Option<u8>
     ensures { result ≡ inverse_of a }
 {
-    if a == 0 {
-        return None;
-    }
-    Some(entry(ORDER - exponent(a)))
+    Some(entry(ORDER - exponent(a)?))
 }
 
 // a / b, but for b = 0.
 pub fn quotient(a: u8, b: u8) -> Option<u8>
     ensures { result ≡ quotient_of a b }
 {
-    if b == 0 {
-        return None;
-    }
-    if a == 0 {
-        return Some(0);
-    }
-    Some(entry(exponent(a) + (ORDER - exponent(b))))
+    let below = ORDER - exponent(b)?;
+    Some(match exponent(a) {
+        Some(above) => entry(above + below),
+        None => 0,
+    })
 }
 
 // The order of E, one of the two rounds of the power table; with the laws of the field.

@@ -31,6 +31,6 @@ fn solved_pair() -> (u8, u8)
 {
     let mut row = [0, 0, 3, 0, 9];
     let lost = [true, true];
-    let _ = DoubleParity::solve(3, &mut row, &lost);
+    DoubleParity::solve(3, &mut row, &lost).unwrap();
     (row[0], row[1])
 }

@@ -3,8 +3,8 @@ use Rattle.field.proofs.Laws.{times-zero-l}
 use Rattle.field.proofs.Products.{quotient_is}
 use Rattle.field.proofs.quotient.Goals as goal
 
-pub returns-then-a-eq0 : goal.returns-then-a-eq0
-returns-then-a-eq0 c = search (rules, times-zero-l)
+pub returns-in-Some : goal.returns-in-Some
+returns-in-Some c = search (rules, quotient_is)
 
-pub returns : goal.returns
-returns c = search (rules, quotient_is)
+pub returns-in-None : goal.returns-in-None
+returns-in-None c = search (rules, times-zero-l)

@@ -3,8 +3,8 @@ use Rattle.field.proofs.Laws.{times-zero-r}
 use Rattle.field.proofs.Products.{scaled-is}
 use Rattle.field.proofs.scaled.Goals as goal
 
-pub returns-then-b-eq0 : goal.returns-then-b-eq0
-returns-then-b-eq0 c = search (rules, times-zero-r)
+pub returns-in-Some : goal.returns-in-Some
+returns-in-Some c = search (rules, scaled-is)
 
-pub returns : goal.returns
-returns c = search (rules, scaled-is)
+pub returns-in-None : goal.returns-in-None
+returns-in-None c = search (rules, times-zero-r)

@@ -3,4 +3,4 @@ use Rattle.codes.specs.Solving.{cleared}
 use Rattle.codes.proofs.row.clear_lost.Given as goal
 
 abbrev pub invariant-loop-c : goal.invariant-loop-c
-invariant-loop-c l = l.row ≡ cleared l.lost l.c l.initial.row
+invariant-loop-c l = l.bytes ≡ cleared l.lost l.c l.initial.bytes
