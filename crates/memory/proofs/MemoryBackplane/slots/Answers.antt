@@ -3,4 +3,4 @@ use Rattle.memory.proofs.Meant.{sound}
 use Rattle.memory.proofs.MemoryBackplane.slots.Goals as goal
 
 pub returns : goal.returns
-returns c = record { value = c.sizes.ensures.slots; sound = sound (held_by c.args.self.now) c.below_256.ensures }
+returns c = record { value = c.in_force.ensures.slots; sound = sound (held_by c.args.self.now) c.below_256.ensures }
