@@ -71,12 +71,9 @@ pub fn judge(sizes: Sizes, length: usize) -> Result<(), MemoryFault>
         blocks,
         cells,
     } = sizes;
-    if 3 <= slots
-        && slots <= 16
-        && 1 <= blocks
-        && blocks <= 65536
-        && 8 <= cells
-        && cells <= 4096
+    if (3..=16).contains(&slots)
+        && (1..=65536).contains(&blocks)
+        && (8..=4096).contains(&cells)
         && length == offset(slots, blocks, cells)
     {
         Ok(())
