@@ -2,12 +2,16 @@
 use Rattle.std.specs.Prelude.{◌≡◌, ℕ, ◌<◌, ◌≤◌, Bool, true, false, cond, ◌&&◌, List, length, Some, None, Ok, Err, Option, Result, ◌==◌, nat_lt}
 use Rattle.backplane.specs.declared.fault.BackplaneFault.{BackplaneFault}
 use Rattle.backplane.specs.declared.fault.BackplaneFault.TheVariants.{Off, NoPlace, Dead, Live, Cut}
+use Rattle.backplane.specs.declared.sizes.Sizes.{Sizes}
 use Rattle.backplane.specs.Plane.{Plane, Sector, Store, to_block, to_cell, content, placed, stored, fitted}
 use Rattle.backplane.specs.Stores.{CutBy, place_of}
 
 -- a backplane by its bytes
 abbrev pub Bytes : Type 0
 Bytes = Plane (List ℕ)
+
+abbrev pub sizes_of : Bytes → Sizes
+sizes_of p = record { slots = p.slots; blocks = p.blocks; cells = p.cells }
 
 -- there is such a place, and 512 bytes are given
 abbrev pub has_place : Store (List ℕ) → Bytes → Bool

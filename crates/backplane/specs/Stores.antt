@@ -9,6 +9,10 @@ module _ {B : Type 0} where
   place_of (to_block d b _) = OfBlock d b
   place_of (to_cell c _) = OfCell c
 
+  abbrev pub to_place : Place → B → Store B
+  to_place (OfBlock d b) x = to_block d b x
+  to_place (OfCell c) x = to_cell c x
+
   -- every store of the list is done, in order
   abbrev pub stored_all : List (Store B) → Plane B → Plane B
   stored_all [] p = p

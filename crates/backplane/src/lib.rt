@@ -2,14 +2,16 @@
 #![tactic(auto)]
 
 ghost use Rattle.std.specs.Prelude.{◌≡◌, true, []};
-ghost use Rattle.backplane.specs.Plane.{to_block, to_cell, pulled, switched};
-ghost use Rattle.backplane.specs.Meaning.{Bytes, Stored, Read, Fitted, Sound};
+ghost use Rattle.backplane.specs.Plane.{pulled, switched};
+ghost use Rattle.backplane.specs.Stores.{to_place};
+ghost use Rattle.backplane.specs.Meaning.{Bytes, Stored, Read, Fitted, Sound, sizes_of};
 
 pub mod bytes;
 pub mod fault;
 pub mod sizes;
 
-use fault::BackplaneFault;
+use fault::{BackplaneFault, Place};
+use sizes::Sizes;
 
 pub trait Backplane {
     ghost view: { Self → Bytes };
@@ -25,23 +27,27 @@ pub trait Backplane {
     fn cells(&self) -> u32
         ensures { result ≡ (view self.now).cells };
 
+    fn sizes(&self) -> Sizes
+        ensures { result ≡ sizes_of (view self.now) }
+    {
+        Sizes {
+            slots: self.slots(),
+            blocks: self.blocks(),
+            cells: self.cells(),
+        }
+    }
+
     fn power(&self) -> bool
         ensures { result ≡ (view self.now).on };
 
     fn live(&self, slot: u32) -> bool
         ensures { result ≡ (view self.now).live slot };
 
-    fn read_block(&mut self, slot: u32, block: u32, into: &mut [u8]) -> Result<(), BackplaneFault>
-        ensures { Read (to_block slot block into.old) (view self.old) result (view self.new) into.new };
+    fn read(&mut self, at: Place, into: &mut [u8]) -> Result<(), BackplaneFault>
+        ensures { Read (to_place at into.old) (view self.old) result (view self.new) into.new };
 
-    fn read_cell(&mut self, cell: u32, into: &mut [u8]) -> Result<(), BackplaneFault>
-        ensures { Read (to_cell cell into.old) (view self.old) result (view self.new) into.new };
-
-    fn store_block(&mut self, slot: u32, block: u32, bytes: &[u8]) -> Result<(), BackplaneFault>
-        ensures { Stored (to_block slot block bytes.now) (view self.old) result (view self.new) };
-
-    fn store_cell(&mut self, cell: u32, bytes: &[u8]) -> Result<(), BackplaneFault>
-        ensures { Stored (to_cell cell bytes.now) (view self.old) result (view self.new) };
+    fn store(&mut self, at: Place, bytes: &[u8]) -> Result<(), BackplaneFault>
+        ensures { Stored (to_place at bytes.now) (view self.old) result (view self.new) };
 
     fn pull(&mut self, slot: u32)
         ensures { view self.new ≡ pulled [] slot (view self.old) };

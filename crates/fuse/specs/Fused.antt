@@ -1,5 +1,7 @@
 -- What a fuse lets through, and what is left of its setting.
 use Rattle.std.specs.Prelude.{◌≡◌, ℕ, ◌-◌, min, Bool, true, false, cond, ◌&&◌, ◌⊎◌, List, ◌++◌, take, drop, Some, None, Ok, Err, Option, Result, ◌==◌}
+use Rattle.backplane.specs.declared.fault.Place.{Place}
+use Rattle.backplane.specs.declared.fault.Place.TheVariants.{OfBlock, OfCell}
 use Rattle.backplane.specs.declared.fault.BackplaneFault.{BackplaneFault}
 use Rattle.backplane.specs.declared.fault.BackplaneFault.TheVariants.{Off, NoPlace, Dead, Live, Cut}
 use Rattle.backplane.specs.Plane.{Sector, Store, to_block, to_cell, content, stored, switched}
@@ -11,6 +13,11 @@ use Rattle.fuse.specs.declared.Fuse.{Fuse}
 -- the new bytes before t, and the old ones from t on
 abbrev pub mixed : ℕ → List ℕ → List ℕ → List ℕ
 mixed t new old = take t new ++ drop t old
+
+-- how many new bytes a store that is cut at t leaves: a cell is never mixed
+abbrev pub new_at : Place → ℕ → ℕ
+new_at (OfBlock d b) t = min t 512
+new_at (OfCell c) t = cond (t == 0) 0 512
 
 -- the store that goes below in place of a cut one. A setting has t at most 512
 abbrev pub cut_to : ℕ → Store (List ℕ) → Bytes → Store (List ℕ)

@@ -1,17 +1,20 @@
 // A layer over any backplane that cuts the power at a set store.
 #![tactic(auto)]
 
-ghost use Rattle.std.specs.Prelude.{◌≡◌, ◌≤◌, min, true, false, nat_le, [], length, if◌then◌else◌, Some, None};
-ghost use Rattle.backplane.specs.Plane.{to_block, to_cell, pulled, switched};
+ghost use Rattle.std.specs.Prelude.{◌≡◌, true, false, nat_le, [], if◌then◌else◌, Some, None};
+ghost use Rattle.backplane.specs.Plane.{pulled, switched};
+ghost use Rattle.backplane.specs.Stores.{to_place};
 ghost use Rattle.backplane.specs.Meaning.{Stored, Read, Fitted};
-ghost use Rattle.fuse.specs.Fused.{mixed, cutting, counted, fusing, seen, over, lit, CutAt, Fused};
+ghost use Rattle.fuse.specs.Fused.{new_at, cutting, counted, fusing, seen, over, lit, CutAt, Fused};
 ghost use Rattle.fuse.specs.Faults.{number, settable};
 
 use backplane::Backplane;
 use backplane::bytes::sector;
 use backplane::fault::{BackplaneFault, Place};
+use std::error::Error;
+use std::fmt;
 
-#[derive(Clone, Copy)]
+#[derive(Clone, Copy, Debug, PartialEq, Eq)]
 pub enum FuseFault {
     // a cut that would keep bytes past the end of a block
     PastBlock,
@@ -26,6 +29,16 @@ impl FuseFault {
         }
     }
 }
+
+impl fmt::Display for FuseFault {
+    fn fmt<W: fmt::Write>(&self, f: &mut fmt::Formatter<W>) -> fmt::Result {
+        match *self {
+            FuseFault::PastBlock => write!(f, "fuse: a cut past the end of a block"),
+        }
+    }
+}
+
+impl Error for FuseFault {}
 
 // `passes` stores pass, and of the next one `kept` bytes are stored before the power fails.
 #[derive(Clone, Copy)]
@@ -42,19 +55,14 @@ pub struct Fuse<B: Backplane> {
     on: bool,
 }
 
-// `old` keeps its bytes from `kept` on, and has those of `new` before.
-fn mix(old: &mut [u8], new: &[u8], kept: usize)
-    requires kept_in_bounds { kept ≤ length old.old }
-    requires kept_in_bounds_2 { kept ≤ length new.now }
-    ensures { old.new ≡ mixed kept new.now old.old }
+// How many new bytes a store that is cut at `kept` leaves: a cell is never mixed.
+fn new_at(at: Place, kept: u32) -> usize
+    ensures { result ≡ new_at at kept }
 {
-    old[0..kept].copy_from_slice(&new[0..kept]);
-}
-
-fn within_block(kept: u32) -> usize
-    ensures { result ≡ min kept 512 }
-{
-    if kept < 512 { kept as usize } else { 512 }
+    match at {
+        Place::OfBlock(..) => kept.min(512) as usize,
+        Place::OfCell(_) => if kept == 0 { 0 } else { 512 },
+    }
 }
 
 impl<B: Backplane> Fuse<B> {
@@ -88,8 +96,7 @@ impl<B: Backplane> Fuse<B> {
     pub fn setting(&self) -> Option<Setting>
         ensures { result ≡ self.now.setting }
     {
-        let Fuse { setting, .. } = self;
-        *setting
+        self.setting
     }
 
     pub fn below(&self) -> &B
@@ -101,12 +108,7 @@ impl<B: Backplane> Fuse<B> {
     pub fn into_below(self) -> B
         ensures { result ≡ self.below }
     {
-        let Fuse {
-            below,
-            setting: _,
-            on: _,
-        } = self;
-        below
+        self.below
     }
 
     // How many bytes are kept of the next store, where that is to be cut.
@@ -125,17 +127,9 @@ impl<B: Backplane> Fuse<B> {
         ensures below { self.new.below ≡ self.old.below }
         ensures on { self.new.on ≡ self.old.on }
     {
-        let counts = match answer {
-            Ok(()) => true,
-            Err(BackplaneFault::Cut(_)) => true,
-            Err(_) => false,
-        };
-        if let Some(f) = self.setting {
-            if counts {
-                self.setting = Some(Setting {
-                    passes: f.passes.saturating_sub(1),
-                    kept: f.kept,
-                });
+        if matches!(answer, Ok(()) | Err(BackplaneFault::Cut(_))) {
+            if let Some(setting) = &mut self.setting {
+                setting.passes = setting.passes.saturating_sub(1);
             }
         }
     }
@@ -150,75 +144,36 @@ impl<B: Backplane> Fuse<B> {
         self.on = false;
     }
 
-    fn cut_block(
-        &mut self,
-        kept: u32,
-        slot: u32,
-        block: u32,
-        bytes: &[u8],
-    ) -> Result<(), BackplaneFault>
-        ensures { CutAt kept (to_block slot block bytes.now) (fusing B.Backplane.view self.old) result (fusing B.Backplane.view self.new) }
+    fn cut(&mut self, kept: u32, at: Place, bytes: &[u8]) -> Result<(), BackplaneFault>
+        ensures { CutAt kept (to_place at bytes.now) (fusing B.Backplane.view self.old) result (fusing B.Backplane.view self.new) }
     {
         if self.below.power() && bytes.len() != 512 {
             return Err(BackplaneFault::NoPlace);
         }
         let mut left = [0u8; 512];
-        self.below.read_block(slot, block, &mut left)?;
-        mix(&mut left, bytes, within_block(kept));
+        self.below.read(at, &mut left)?;
+        let n = new_at(at, kept);
+        left[..n].copy_from_slice(&bytes[..n]);
+        // what a local array holds is not known to be bytes unless it is read
         sector(&left);
-        match self.below.store_block(slot, block, &left) {
-            Ok(()) => {}
-            Err(BackplaneFault::Cut(_)) => {}
+        match self.below.store(at, &left) {
+            Ok(()) | Err(BackplaneFault::Cut(_)) => {}
             Err(fault) => return Err(fault),
         }
         self.spend();
-        Err(BackplaneFault::Cut(Place::OfBlock(slot, block)))
+        Err(BackplaneFault::Cut(at))
     }
 
-    fn cut_cell(&mut self, kept: u32, cell: u32, bytes: &[u8]) -> Result<(), BackplaneFault>
-        ensures { CutAt kept (to_cell cell bytes.now) (fusing B.Backplane.view self.old) result (fusing B.Backplane.view self.new) }
-    {
-        if self.below.power() && bytes.len() != 512 {
-            return Err(BackplaneFault::NoPlace);
-        }
-        let mut left = [0u8; 512];
-        self.below.read_cell(cell, &mut left)?;
-        if kept > 0 {
-            left.copy_from_slice(bytes);
-        }
-        match self.below.store_cell(cell, &left) {
-            Ok(()) => {}
-            Err(BackplaneFault::Cut(_)) => {}
-            Err(fault) => return Err(fault),
-        }
-        self.spend();
-        Err(BackplaneFault::Cut(Place::OfCell(cell)))
-    }
-
-    fn put_block(&mut self, slot: u32, block: u32, bytes: &[u8]) -> Result<(), BackplaneFault>
-        ensures { Fused (to_block slot block bytes.now) (fusing B.Backplane.view self.old) result (fusing B.Backplane.view self.new) }
+    fn put(&mut self, at: Place, bytes: &[u8]) -> Result<(), BackplaneFault>
+        ensures { Fused (to_place at bytes.now) (fusing B.Backplane.view self.old) result (fusing B.Backplane.view self.new) }
     {
         if !self.on {
             return Err(BackplaneFault::Off);
         }
         if let Some(kept) = self.cutting() {
-            return self.cut_block(kept, slot, block, bytes);
+            return self.cut(kept, at, bytes);
         }
-        let answer = self.below.store_block(slot, block, bytes);
-        self.count(&answer);
-        answer
-    }
-
-    fn put_cell(&mut self, cell: u32, bytes: &[u8]) -> Result<(), BackplaneFault>
-        ensures { Fused (to_cell cell bytes.now) (fusing B.Backplane.view self.old) result (fusing B.Backplane.view self.new) }
-    {
-        if !self.on {
-            return Err(BackplaneFault::Off);
-        }
-        if let Some(kept) = self.cutting() {
-            return self.cut_cell(kept, cell, bytes);
-        }
-        let answer = self.below.store_cell(cell, bytes);
+        let answer = self.below.store(at, bytes);
         self.count(&answer);
         answer
     }
@@ -240,46 +195,28 @@ impl<B: Backplane> Backplane for Fuse<B> {
     }
 
     fn power(&self) -> bool {
-        let below = self.below.power();
-        self.on & below
+        self.on && self.below.power()
     }
 
     fn live(&self, slot: u32) -> bool {
         self.below.live(slot)
     }
 
-    fn read_block(&mut self, slot: u32, block: u32, into: &mut [u8]) -> Result<(), BackplaneFault>
-        ensures meaning { Read (to_block slot block into.old) (seen (fusing B.Backplane.view self.old)) result (seen (fusing B.Backplane.view self.new)) into.new }
+    fn read(&mut self, at: Place, into: &mut [u8]) -> Result<(), BackplaneFault>
+        ensures meaning { Read (to_place at into.old) (seen (fusing B.Backplane.view self.old)) result (seen (fusing B.Backplane.view self.new)) into.new }
         ensures exact { fusing B.Backplane.view self.new ≡ fusing B.Backplane.view self.old }
     {
         if !self.on {
             return Err(BackplaneFault::Off);
         }
-        self.below.read_block(slot, block, into)
+        self.below.read(at, into)
     }
 
-    fn read_cell(&mut self, cell: u32, into: &mut [u8]) -> Result<(), BackplaneFault>
-        ensures meaning { Read (to_cell cell into.old) (seen (fusing B.Backplane.view self.old)) result (seen (fusing B.Backplane.view self.new)) into.new }
-        ensures exact { fusing B.Backplane.view self.new ≡ fusing B.Backplane.view self.old }
+    fn store(&mut self, at: Place, bytes: &[u8]) -> Result<(), BackplaneFault>
+        ensures meaning { Stored (to_place at bytes.now) (seen (fusing B.Backplane.view self.old)) result (seen (fusing B.Backplane.view self.new)) }
+        ensures exact { Fused (to_place at bytes.now) (fusing B.Backplane.view self.old) result (fusing B.Backplane.view self.new) }
     {
-        if !self.on {
-            return Err(BackplaneFault::Off);
-        }
-        self.below.read_cell(cell, into)
-    }
-
-    fn store_block(&mut self, slot: u32, block: u32, bytes: &[u8]) -> Result<(), BackplaneFault>
-        ensures meaning { Stored (to_block slot block bytes.now) (seen (fusing B.Backplane.view self.old)) result (seen (fusing B.Backplane.view self.new)) }
-        ensures exact { Fused (to_block slot block bytes.now) (fusing B.Backplane.view self.old) result (fusing B.Backplane.view self.new) }
-    {
-        self.put_block(slot, block, bytes)
-    }
-
-    fn store_cell(&mut self, cell: u32, bytes: &[u8]) -> Result<(), BackplaneFault>
-        ensures meaning { Stored (to_cell cell bytes.now) (seen (fusing B.Backplane.view self.old)) result (seen (fusing B.Backplane.view self.new)) }
-        ensures exact { Fused (to_cell cell bytes.now) (fusing B.Backplane.view self.old) result (fusing B.Backplane.view self.new) }
-    {
-        self.put_cell(cell, bytes)
+        self.put(at, bytes)
     }
 
     fn pull(&mut self, slot: u32)

@@ -16,7 +16,7 @@ pub record Held : Type 0 where
   pub live : List Bool
 
 abbrev pub held_by : Memory → Held
-held_by m = record { bytes = m.bytes.now; slots = m.slots; blocks = m.blocks; cells = m.cells; on = m.on; live = m.live }
+held_by m = record { bytes = m.bytes.now; slots = m.given.slots; blocks = m.given.blocks; cells = m.given.cells; on = m.on; live = m.live }
 
 -- a size in force: 0 where the sizes do not fit the lent bytes
 abbrev pub in_force : Held → ℕ → ℕ

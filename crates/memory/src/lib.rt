@@ -1,21 +1,25 @@
 // A backplane that lies in lent bytes. It never cuts a store.
 #![tactic(auto)]
 
-ghost use Rattle.std.specs.Prelude.{◌≡◌, ◌+◌, ◌*◌, ◌<◌, ◌≤◌, true, [], length, replicate};
-ghost use Rattle.backplane.specs.Plane.{to_block, to_cell, pulled, switched};
+ghost use Rattle.std.specs.Prelude.{◌≡◌, ◌+◌, ◌*◌, ◌≤◌, true, [], length, replicate};
+ghost use Rattle.backplane.specs.Plane.{pulled, switched};
+ghost use Rattle.backplane.specs.Stores.{to_place};
 ghost use Rattle.backplane.specs.Meaning.{Stored, Read, Fitted};
-ghost use Rattle.memory.specs.Lent.{part, with_part, block_at, cell_at, fits_memory};
-ghost use Rattle.memory.specs.Held.{Held, held_by, in_force, view_of, powered, Placed, StoredIn, ReadFrom, FittedIn, pulled_in};
+ghost use Rattle.memory.specs.Lent.{with_part, fits_memory};
+ghost use Rattle.memory.specs.Held.{held_by, in_force, view_of, powered, Placed, StoredIn, ReadFrom, FittedIn, pulled_in};
 ghost use Rattle.memory.specs.Faults.{number, judged};
 
 use backplane::Backplane;
 use backplane::bytes::below_256;
-use backplane::fault::BackplaneFault;
+use backplane::fault::{BackplaneFault, Place};
+use backplane::sizes::Sizes;
+use std::error::Error;
+use std::fmt;
 
 // What a disk holds that was just fitted.
 const FRESH: u8 = 229;
 
-#[derive(Clone, Copy)]
+#[derive(Clone, Copy, Debug, PartialEq, Eq)]
 pub enum MemoryFault {
     // the sizes are outside the limits, or other bytes are lent than they ask for
     Misfit,
@@ -31,13 +35,21 @@ impl MemoryFault {
     }
 }
 
-// The sizes stand as they were given: `sizes` says which are in force.
+impl fmt::Display for MemoryFault {
+    fn fmt<W: fmt::Write>(&self, f: &mut fmt::Formatter<W>) -> fmt::Result {
+        match *self {
+            MemoryFault::Misfit => write!(f, "memory: the sizes do not fit the lent bytes"),
+        }
+    }
+}
+
+impl Error for MemoryFault {}
+
+// `given` stands as it was asked for: `in_force` says which sizes count.
 #[derive(Drop)]
 pub struct Memory<'a> {
     bytes: &'a mut [u8],
-    slots: u32,
-    blocks: u32,
-    cells: u32,
+    given: Sizes,
     on: bool,
     live: [bool; 16],
 }
@@ -50,23 +62,20 @@ fn offset(row: u32, width: u32, column: u32) -> usize
     512 * (row as usize * width as usize + column as usize)
 }
 
-fn fits(slots: u32, blocks: u32, cells: u32, length: usize) -> bool
-    ensures { result ≡ fits_memory slots blocks cells length }
-{
-    3 <= slots
-        && slots <= 16
-        && 1 <= blocks
-        && blocks <= 65536
-        && 8 <= cells
-        && cells <= 4096
-        && length == offset(slots, blocks, cells)
-}
-
 // Whether a memory backplane of these sizes can be made in so many bytes.
-pub fn judge(slots: u32, blocks: u32, cells: u32, length: usize) -> Result<(), MemoryFault>
-    ensures { result ≡ judged (fits_memory slots blocks cells length) }
+pub fn judge(sizes: Sizes, length: usize) -> Result<(), MemoryFault>
+    ensures { result ≡ judged (fits_memory sizes.slots sizes.blocks sizes.cells length) }
 {
-    if fits(slots, blocks, cells, length) {
+    let Sizes {
+        slots,
+        blocks,
+        cells,
+    } = sizes;
+    if (3..=16).contains(&slots)
+        && (1..=65536).contains(&blocks)
+        && (8..=4096).contains(&cells)
+        && length == offset(slots, blocks, cells)
+    {
         Ok(())
     } else {
         Err(MemoryFault::Misfit)
@@ -89,60 +98,14 @@ fn store_at(bytes: &mut [u8], at: usize, from: &[u8])
     copy(&mut bytes[at..at + 512], from);
 }
 
-fn read_at(bytes: &[u8], at: usize, into: &mut [u8])
-    requires at_in_bounds { at + 512 ≤ length bytes.now }
-    requires into_len { length into.old ≡ 512 }
-    ensures { into.new ≡ part bytes.now at }
-{
-    copy(into, &bytes[at..at + 512]);
-}
-
-fn fill(into: &mut [u8])
-    ensures { into.new ≡ replicate (length into.old) 229 }
-{
-    into.fill(FRESH);
-}
-
-// Fills `count` bytes from byte `at` on as those of a fitted disk; every other byte stays.
-fn fill_at(bytes: &mut [u8], at: usize, count: usize)
-    requires { at + count ≤ length bytes.old }
-    ensures { bytes.new ≡ with_part at count (replicate count 229) bytes.old }
-{
-    fill(&mut bytes[at..at + count]);
-}
-
-// Where a block begins, and that it ends before the cells do.
-fn block_at(slots: u32, blocks: u32, slot: u32, block: u32) -> usize
-    requires slot_lt_slots { slot < slots }
-    requires block_lt_blocks { block < blocks }
-    requires slots_bound { slots ≤ 16 }
-    ensures is { result ≡ block_at blocks slot block }
-    ensures ends { result + 512 ≤ 512 * (slots * blocks) }
-{
-    offset(slot, blocks, block)
-}
-
-// Where a disk begins, and how many bytes it has.
-fn disk_at(slots: u32, blocks: u32, slot: u32) -> (usize, usize)
-    requires slot_lt_slots { slot < slots }
-    requires slots_bound { slots ≤ 16 }
-    ensures from { result.0 ≡ block_at blocks slot 0 }
-    ensures count { result.1 ≡ 512 * blocks }
-    ensures ends { result.0 + result.1 ≤ 512 * (slots * blocks) }
-{
-    (offset(slot, blocks, 0), 512 * blocks as usize)
-}
-
 impl<'a> Memory<'a> {
     // Powered, with every slot live. Where the sizes do not fit the lent bytes, all sizes are 0.
-    pub fn new(bytes: &'a mut [u8], slots: u32, blocks: u32, cells: u32) -> Memory<'a>
-        ensures { held_by result ≡ record { bytes = bytes.entry.now; slots = slots; blocks = blocks; cells = cells; on = true; live = replicate 16 true } }
+    pub fn new(bytes: &'a mut [u8], sizes: Sizes) -> Memory<'a>
+        ensures { held_by result ≡ record { bytes = bytes.entry.now; slots = sizes.slots; blocks = sizes.blocks; cells = sizes.cells; on = true; live = replicate 16 true } }
     {
         Memory {
             bytes,
-            slots,
-            blocks,
-            cells,
+            given: sizes,
             on: true,
             live: [true; 16],
         }
@@ -157,82 +120,65 @@ impl Memory<'_> {
         &self.bytes[..]
     }
 
-    // The sizes in force.
-    fn sizes(&self) -> (u32, u32, u32)
-        ensures slots { result.0 ≡ in_force (held_by self.now) self.now.slots }
-        ensures blocks { result.1 ≡ in_force (held_by self.now) self.now.blocks }
-        ensures cells { result.2 ≡ in_force (held_by self.now) self.now.cells }
-        ensures room { 512 * (result.0 * result.1 + result.2) ≤ length (held_by self.now).bytes }
-        ensures few { result.0 ≤ 16 }
+    // The sizes that count: those given, or 0 throughout.
+    fn in_force(&self) -> Sizes
+        ensures slots { result.slots ≡ in_force (held_by self.now) self.now.given.slots }
+        ensures blocks { result.blocks ≡ in_force (held_by self.now) self.now.given.blocks }
+        ensures cells { result.cells ≡ in_force (held_by self.now) self.now.given.cells }
+        ensures room { 512 * (result.slots * result.blocks + result.cells) ≤ length (held_by self.now).bytes }
+        ensures few { result.slots ≤ 16 }
     {
-        if fits(self.slots, self.blocks, self.cells, self.bytes.len()) {
-            (self.slots, self.blocks, self.cells)
-        } else {
-            (0, 0, 0)
+        match judge(self.given, self.bytes.len()) {
+            Ok(()) => self.given,
+            Err(_) => Sizes {
+                slots: 0,
+                blocks: 0,
+                cells: 0,
+            },
         }
     }
 
-    // The first byte of a block, or why `given` cannot be stored or read there.
-    fn place_of_block(&self, slot: u32, block: u32, given: &[u8]) -> Result<usize, BackplaneFault>
-        ensures { Placed (to_block slot block given.now) (held_by self.now) result }
+    // The first byte of a place, or why `bytes` cannot be stored or read there.
+    fn place_of(&self, at: Place, bytes: &[u8]) -> Result<usize, BackplaneFault>
+        ensures { Placed (to_place at bytes.now) (held_by self.now) result }
     {
-        let (slots, blocks, _) = self.sizes();
+        let Sizes {
+            slots,
+            blocks,
+            cells,
+        } = self.in_force();
         if !self.on {
             return Err(BackplaneFault::Off);
         }
-        if slot >= slots || block >= blocks || given.len() != 512 {
+        if bytes.len() != 512 {
             return Err(BackplaneFault::NoPlace);
         }
-        if !self.live[slot as usize] {
-            return Err(BackplaneFault::Dead);
+        match at {
+            Place::OfBlock(slot, block) if slot < slots && block < blocks => {
+                if !self.live[slot as usize] {
+                    return Err(BackplaneFault::Dead);
+                }
+                Ok(offset(slot, blocks, block))
+            }
+            Place::OfCell(cell) if cell < cells => Ok(offset(slots, blocks, cell)),
+            _ => Err(BackplaneFault::NoPlace),
         }
-        Ok(block_at(slots, blocks, slot, block))
     }
 
-    // The first byte of a cell, or why `given` cannot be stored or read there.
-    fn place_of_cell(&self, cell: u32, given: &[u8]) -> Result<usize, BackplaneFault>
-        ensures { Placed (to_cell cell given.now) (held_by self.now) result }
+    fn load(&self, at: Place, into: &mut [u8]) -> Result<(), BackplaneFault>
+        ensures { ReadFrom (to_place at into.old) (held_by self.now) result into.new }
     {
-        let (slots, blocks, cells) = self.sizes();
-        if !self.on {
-            return Err(BackplaneFault::Off);
-        }
-        if cell >= cells || given.len() != 512 {
-            return Err(BackplaneFault::NoPlace);
-        }
-        Ok(offset(slots, blocks, cell))
-    }
-
-    fn load_block(&self, slot: u32, block: u32, into: &mut [u8]) -> Result<(), BackplaneFault>
-        ensures { ReadFrom (to_block slot block into.old) (held_by self.now) result into.new }
-    {
-        let at = self.place_of_block(slot, block, into)?;
-        read_at(self.bytes, at, into);
+        let first = self.place_of(at, into)?;
+        into.copy_from_slice(&self.bytes[first..first + 512]);
         Ok(())
     }
 
-    fn load_cell(&self, cell: u32, into: &mut [u8]) -> Result<(), BackplaneFault>
-        ensures { ReadFrom (to_cell cell into.old) (held_by self.now) result into.new }
+    // Stores 512 bytes at a place in the lent bytes, and changes nothing else.
+    fn put(&mut self, at: Place, from: &[u8]) -> Result<(), BackplaneFault>
+        ensures { StoredIn (to_place at from.now) (held_by self.old) result (held_by self.new) }
     {
-        let at = self.place_of_cell(cell, into)?;
-        read_at(self.bytes, at, into);
-        Ok(())
-    }
-
-    // Stores 512 bytes at a block's place in the lent bytes, and changes nothing else.
-    fn put_block(&mut self, slot: u32, block: u32, from: &[u8]) -> Result<(), BackplaneFault>
-        ensures { StoredIn (to_block slot block from.now) (held_by self.old) result (held_by self.new) }
-    {
-        let at = self.place_of_block(slot, block, from)?;
-        store_at(self.bytes, at, from);
-        Ok(())
-    }
-
-    fn put_cell(&mut self, cell: u32, from: &[u8]) -> Result<(), BackplaneFault>
-        ensures { StoredIn (to_cell cell from.now) (held_by self.old) result (held_by self.new) }
-    {
-        let at = self.place_of_cell(cell, from)?;
-        store_at(self.bytes, at, from);
+        let first = self.place_of(at, from)?;
+        store_at(self.bytes, first, from);
         Ok(())
     }
 
@@ -240,7 +186,7 @@ impl Memory<'_> {
     fn fit_disk(&mut self, slot: u32) -> Result<(), BackplaneFault>
         ensures { FittedIn slot (held_by self.old) result (held_by self.new) }
     {
-        let (slots, blocks, _) = self.sizes();
+        let Sizes { slots, blocks, .. } = self.in_force();
         if !self.on {
             return Err(BackplaneFault::Off);
         }
@@ -250,8 +196,9 @@ impl Memory<'_> {
         if self.live[slot as usize] {
             return Err(BackplaneFault::Live);
         }
-        let (at, count) = disk_at(slots, blocks, slot);
-        fill_at(self.bytes, at, count);
+        let first = offset(slot, blocks, 0);
+        let count = 512 * blocks as usize;
+        self.bytes[first..first + count].fill(FRESH);
         self.live[slot as usize] = true;
         Ok(())
     }
@@ -260,8 +207,7 @@ impl Memory<'_> {
     fn pull_disk(&mut self, slot: u32)
         ensures { held_by self.new ≡ pulled_in slot (held_by self.old) }
     {
-        let (slots, _, _) = self.sizes();
-        if slot < slots {
+        if slot < self.in_force().slots {
             self.live[slot as usize] = false;
         }
     }
@@ -271,54 +217,39 @@ impl Backplane for Memory<'_> {
     ghost view = { λ m. view_of (held_by m) };
 
     fn slots(&self) -> u32 {
+        // what a field lends is not known to be bytes unless it is read
         below_256(self.bytes);
-        self.sizes().0
+        self.in_force().slots
     }
 
     fn blocks(&self) -> u32 {
-        self.sizes().1
+        self.in_force().blocks
     }
 
     fn cells(&self) -> u32 {
-        self.sizes().2
+        self.in_force().cells
     }
 
     fn power(&self) -> bool {
-        let Memory { on, .. } = self;
-        *on
+        self.on
     }
 
     fn live(&self, slot: u32) -> bool {
-        let (slots, _, _) = self.sizes();
-        slot < slots && self.live[slot as usize]
+        slot < self.in_force().slots && self.live[slot as usize]
     }
 
-    fn read_block(&mut self, slot: u32, block: u32, into: &mut [u8]) -> Result<(), BackplaneFault>
-        ensures meaning { Read (to_block slot block into.old) (view_of (held_by self.old)) result (view_of (held_by self.new)) into.new }
+    fn read(&mut self, at: Place, into: &mut [u8]) -> Result<(), BackplaneFault>
+        ensures meaning { Read (to_place at into.old) (view_of (held_by self.old)) result (view_of (held_by self.new)) into.new }
         ensures exact { held_by self.new ≡ held_by self.old }
     {
-        self.load_block(slot, block, into)
+        self.load(at, into)
     }
 
-    fn read_cell(&mut self, cell: u32, into: &mut [u8]) -> Result<(), BackplaneFault>
-        ensures meaning { Read (to_cell cell into.old) (view_of (held_by self.old)) result (view_of (held_by self.new)) into.new }
-        ensures exact { held_by self.new ≡ held_by self.old }
+    fn store(&mut self, at: Place, bytes: &[u8]) -> Result<(), BackplaneFault>
+        ensures meaning { Stored (to_place at bytes.now) (view_of (held_by self.old)) result (view_of (held_by self.new)) }
+        ensures exact { StoredIn (to_place at bytes.now) (held_by self.old) result (held_by self.new) }
     {
-        self.load_cell(cell, into)
-    }
-
-    fn store_block(&mut self, slot: u32, block: u32, bytes: &[u8]) -> Result<(), BackplaneFault>
-        ensures meaning { Stored (to_block slot block bytes.now) (view_of (held_by self.old)) result (view_of (held_by self.new)) }
-        ensures exact { StoredIn (to_block slot block bytes.now) (held_by self.old) result (held_by self.new) }
-    {
-        self.put_block(slot, block, bytes)
-    }
-
-    fn store_cell(&mut self, cell: u32, bytes: &[u8]) -> Result<(), BackplaneFault>
-        ensures meaning { Stored (to_cell cell bytes.now) (view_of (held_by self.old)) result (view_of (held_by self.new)) }
-        ensures exact { StoredIn (to_cell cell bytes.now) (held_by self.old) result (held_by self.new) }
-    {
-        self.put_cell(cell, bytes)
+        self.put(at, bytes)
     }
 
     fn pull(&mut self, slot: u32)

@@ -1,14 +1,16 @@
 // One exercise for every backplane: each operation at its edges, with the answers counted.
 #![tactic(auto)]
 
-ghost use Rattle.std.specs.Prelude.{◌≡◌, ◌+◌, ◌<◌};
+ghost use Rattle.std.specs.Prelude.{◌≡◌, ◌+◌, ◌<◌, length};
 ghost use Rattle.plane_exercise.specs.Tallies.{total, noted, SameSizes, Tried};
 
 use backplane::Backplane;
-use backplane::fault::BackplaneFault;
+use backplane::fault::{BackplaneFault, Place};
+use backplane::sizes::Sizes;
+use std::fmt;
 
 // How often each answer was given.
-#[derive(Clone, Copy)]
+#[derive(Clone, Copy, Debug, Default, PartialEq, Eq)]
 pub struct Tally {
     pub done: u32,
     pub off: u32,
@@ -22,169 +24,130 @@ impl Tally {
     pub fn new() -> Tally
         ensures { total result ≡ 0 }
     {
-        Tally {
-            done: 0,
-            off: 0,
-            no_place: 0,
-            dead: 0,
-            live: 0,
-            cut: 0,
-        }
+        Tally::default()
     }
 
-    fn noted(self, answer: &Result<(), BackplaneFault>) -> Tally
-        requires { total self < 1000 }
-        ensures { result ≡ noted answer.now self }
+    // A count that is full stays.
+    fn note(&mut self, answer: &Result<(), BackplaneFault>)
+        ensures { total self.old < 4294967295 → self.new ≡ noted answer.now self.old }
     {
-        let mut t = self;
         match answer {
-            Ok(()) => t.done += 1,
-            Err(BackplaneFault::Off) => t.off += 1,
-            Err(BackplaneFault::NoPlace) => t.no_place += 1,
-            Err(BackplaneFault::Dead) => t.dead += 1,
-            Err(BackplaneFault::Live) => t.live += 1,
-            Err(BackplaneFault::Cut(_)) => t.cut += 1,
+            Ok(()) => self.done = self.done.saturating_add(1),
+            Err(BackplaneFault::Off) => self.off = self.off.saturating_add(1),
+            Err(BackplaneFault::NoPlace) => self.no_place = self.no_place.saturating_add(1),
+            Err(BackplaneFault::Dead) => self.dead = self.dead.saturating_add(1),
+            Err(BackplaneFault::Live) => self.live = self.live.saturating_add(1),
+            Err(BackplaneFault::Cut(_)) => self.cut = self.cut.saturating_add(1),
         }
-        t
     }
 }
 
-fn read_block<B: Backplane>(
-    plane: &mut B,
-    slot: u32,
-    block: u32,
-    into: &mut [u8],
-    tally: Tally,
-) -> Tally
-    requires { total tally < 1000 }
-    ensures { Tried 1 tally result (B.Backplane.view plane.old) (B.Backplane.view plane.new) }
-{
-    let answer = plane.read_block(slot, block, into);
-    tally.noted(&answer)
+impl fmt::Display for Tally {
+    fn fmt<W: fmt::Write>(&self, f: &mut fmt::Formatter<W>) -> fmt::Result {
+        let Tally {
+            done,
+            off,
+            no_place,
+            dead,
+            live,
+            cut,
+        } = *self;
+        write!(
+            f,
+            "done {done}, off {off}, no place {no_place}, dead {dead}, live {live}, cut {cut}"
+        )
+    }
 }
 
-fn read_cell<B: Backplane>(plane: &mut B, cell: u32, into: &mut [u8], tally: Tally) -> Tally
-    requires { total tally < 1000 }
-    ensures { Tried 1 tally result (B.Backplane.view plane.old) (B.Backplane.view plane.new) }
-{
-    let answer = plane.read_cell(cell, into);
-    tally.noted(&answer)
+// An operation that is answered. A store and a read are given so many bytes.
+#[derive(Clone, Copy)]
+enum Step {
+    Store(Place, usize),
+    Read(Place, usize),
+    Fit(u32),
 }
 
-fn store_block<B: Backplane>(
-    plane: &mut B,
-    slot: u32,
-    block: u32,
-    bytes: &[u8],
-    tally: Tally,
-) -> Tally
-    requires { total tally < 1000 }
-    ensures { Tried 1 tally result (B.Backplane.view plane.old) (B.Backplane.view plane.new) }
-{
-    let answer = plane.store_block(slot, block, bytes);
-    tally.noted(&answer)
+impl Step {
+    fn try_on<B: Backplane>(self, plane: &mut B) -> Result<(), BackplaneFault>
+        ensures { SameSizes (B.Backplane.view plane.old) (B.Backplane.view plane.new) }
+    {
+        let mut bytes = [165u8; 513];
+        match self {
+            Step::Store(at, length) => plane.store(at, &bytes[..length.min(513)]),
+            Step::Read(at, length) => plane.read(at, &mut bytes[..length.min(513)]),
+            Step::Fit(slot) => plane.fit(slot),
+        }
+    }
 }
 
-fn store_cell<B: Backplane>(plane: &mut B, cell: u32, bytes: &[u8], tally: Tally) -> Tally
-    requires { total tally < 1000 }
-    ensures { Tried 1 tally result (B.Backplane.view plane.old) (B.Backplane.view plane.new) }
-{
-    let answer = plane.store_cell(cell, bytes);
-    tally.noted(&answer)
+// At the first block, the last, one past the last slot and one past the last block; at the first cell, the last and one past it; and with one byte too few
+// and one too many.
+fn edges(sizes: Sizes) -> [Step; 22] {
+    let Sizes {
+        slots,
+        blocks,
+        cells,
+    } = sizes;
+    let (block, cell) = (Place::OfBlock(0, 0), Place::OfCell(0));
+    let last_block = Place::OfBlock(slots.saturating_sub(1), blocks.saturating_sub(1));
+    let last_cell = Place::OfCell(cells.saturating_sub(1));
+    [
+        Step::Store(block, 512),
+        Step::Store(last_block, 512),
+        Step::Store(Place::OfBlock(slots, 0), 512),
+        Step::Store(Place::OfBlock(0, blocks), 512),
+        Step::Read(block, 512),
+        Step::Read(last_block, 512),
+        Step::Read(Place::OfBlock(slots, 0), 512),
+        Step::Read(Place::OfBlock(0, blocks), 512),
+        Step::Store(cell, 512),
+        Step::Store(last_cell, 512),
+        Step::Store(Place::OfCell(cells), 512),
+        Step::Read(cell, 512),
+        Step::Read(last_cell, 512),
+        Step::Read(Place::OfCell(cells), 512),
+        Step::Store(block, 511),
+        Step::Store(block, 513),
+        Step::Read(block, 511),
+        Step::Read(block, 513),
+        Step::Store(cell, 511),
+        Step::Store(cell, 513),
+        Step::Read(cell, 511),
+        Step::Read(cell, 513),
+    ]
 }
 
-fn fit<B: Backplane>(plane: &mut B, slot: u32, tally: Tally) -> Tally
-    requires { total tally < 1000 }
-    ensures { Tried 1 tally result (B.Backplane.view plane.old) (B.Backplane.view plane.new) }
-{
-    let answer = plane.fit(slot);
-    tally.noted(&answer)
+// Where the first disk was pulled: its blocks are refused until a disk is fitted.
+fn pulled(slots: u32) -> [Step; 7] {
+    let block = Place::OfBlock(0, 0);
+    [
+        Step::Store(block, 512),
+        Step::Read(block, 512),
+        Step::Store(block, 511),
+        Step::Fit(slots),
+        Step::Fit(1),
+        Step::Fit(0),
+        Step::Read(block, 512),
+    ]
 }
 
-fn pull<B: Backplane>(plane: &mut B, slot: u32)
-    ensures { SameSizes (B.Backplane.view plane.old) (B.Backplane.view plane.new) }
+fn try_all<B: Backplane>(plane: &mut B, steps: &[Step], tally: &mut Tally)
+    ensures { Tried (length steps.now) tally.old tally.new (B.Backplane.view plane.old) (B.Backplane.view plane.new) }
 {
-    plane.pull(slot);
+    for step in steps {
+        let answer = step.try_on(plane);
+        tally.note(&answer);
+    }
 }
 
-// The first block, the last, one past the last slot, and one past the last block.
-fn try_blocks<B: Backplane>(plane: &mut B, tally: Tally) -> Tally
-    requires { total tally < 900 }
-    ensures { Tried 8 tally result (B.Backplane.view plane.old) (B.Backplane.view plane.new) }
+fn round<B: Backplane>(plane: &mut B, tally: &mut Tally)
+    ensures { Tried 29 tally.old tally.new (B.Backplane.view plane.old) (B.Backplane.view plane.new) }
 {
-    let slots = plane.slots();
-    let blocks = plane.blocks();
-    let (slot, block) = (slots.saturating_sub(1), blocks.saturating_sub(1));
-    let mut bytes = [165u8; 512];
-    let tally = store_block(plane, 0, 0, &bytes, tally);
-    let tally = store_block(plane, slot, block, &bytes, tally);
-    let tally = store_block(plane, slots, 0, &bytes, tally);
-    let tally = store_block(plane, 0, blocks, &bytes, tally);
-    let tally = read_block(plane, 0, 0, &mut bytes, tally);
-    let tally = read_block(plane, slot, block, &mut bytes, tally);
-    let tally = read_block(plane, slots, 0, &mut bytes, tally);
-    read_block(plane, 0, blocks, &mut bytes, tally)
-}
-
-// The first cell, the last, and one past it.
-fn try_cells<B: Backplane>(plane: &mut B, tally: Tally) -> Tally
-    requires { total tally < 900 }
-    ensures { Tried 6 tally result (B.Backplane.view plane.old) (B.Backplane.view plane.new) }
-{
-    let cells = plane.cells();
-    let last = cells.saturating_sub(1);
-    let mut bytes = [90u8; 512];
-    let tally = store_cell(plane, 0, &bytes, tally);
-    let tally = store_cell(plane, last, &bytes, tally);
-    let tally = store_cell(plane, cells, &bytes, tally);
-    let tally = read_cell(plane, 0, &mut bytes, tally);
-    let tally = read_cell(plane, last, &mut bytes, tally);
-    read_cell(plane, cells, &mut bytes, tally)
-}
-
-// One byte too few, and one too many.
-fn try_lengths<B: Backplane>(plane: &mut B, tally: Tally) -> Tally
-    requires { total tally < 900 }
-    ensures { Tried 8 tally result (B.Backplane.view plane.old) (B.Backplane.view plane.new) }
-{
-    let mut short = [1u8; 511];
-    let mut long = [2u8; 513];
-    let tally = store_block(plane, 0, 0, &short, tally);
-    let tally = store_block(plane, 0, 0, &long, tally);
-    let tally = read_block(plane, 0, 0, &mut short, tally);
-    let tally = read_block(plane, 0, 0, &mut long, tally);
-    let tally = store_cell(plane, 0, &short, tally);
-    let tally = store_cell(plane, 0, &long, tally);
-    let tally = read_cell(plane, 0, &mut short, tally);
-    read_cell(plane, 0, &mut long, tally)
-}
-
-// A disk is pulled: its blocks are refused until a disk is fitted.
-fn try_disks<B: Backplane>(plane: &mut B, tally: Tally) -> Tally
-    requires { total tally < 900 }
-    ensures { Tried 7 tally result (B.Backplane.view plane.old) (B.Backplane.view plane.new) }
-{
-    let slots = plane.slots();
-    let mut bytes = [7u8; 512];
-    pull(plane, slots);
-    pull(plane, 0);
-    let tally = store_block(plane, 0, 0, &bytes, tally);
-    let tally = read_block(plane, 0, 0, &mut bytes, tally);
-    let tally = store_block(plane, 0, 0, &bytes[0..511], tally);
-    let tally = fit(plane, slots, tally);
-    let tally = fit(plane, 1, tally);
-    let tally = fit(plane, 0, tally);
-    read_block(plane, 0, 0, &mut bytes, tally)
-}
-
-fn round<B: Backplane>(plane: &mut B, tally: Tally) -> Tally
-    requires { total tally < 800 }
-    ensures { Tried 29 tally result (B.Backplane.view plane.old) (B.Backplane.view plane.new) }
-{
-    let tally = try_blocks(plane, tally);
-    let tally = try_cells(plane, tally);
-    let tally = try_lengths(plane, tally);
-    try_disks(plane, tally)
+    let sizes = plane.sizes();
+    try_all(plane, &edges(sizes), tally);
+    plane.pull(sizes.slots);
+    plane.pull(0);
+    try_all(plane, &pulled(sizes.slots), tally);
 }
 
 // Every operation, with the power as it is found, and again after power up: 58 answers. The sizes stay.
@@ -192,7 +155,9 @@ pub fn exercise<B: Backplane>(plane: &mut B) -> Tally
     ensures answers { total result ≡ 58 }
     ensures sizes { SameSizes (B.Backplane.view plane.old) (B.Backplane.view plane.new) }
 {
-    let tally = round(plane, Tally::new());
+    let mut tally = Tally::new();
+    round(plane, &mut tally);
     plane.power_up();
-    round(plane, tally)
+    round(plane, &mut tally);
+    tally
 }
