@@ -55,13 +55,12 @@ pub fn number_at(bytes: &[u8], at: u32) -> u32
     ])
 }
 
-// Stores a number in the four bytes from a place on, the lowest first.
-pub(crate) fn put_number(bytes: &mut [u8], at: usize, number: u32)
-    requires { at + 4 ≤ length bytes.old }
-    ensures { bytes.new ≡ paste bytes.old at (le4 number) 4 }
+// Stores a number in four bytes of a cell, the lowest first.
+pub(crate) fn put_number(cell: &mut [u8; 512], at: usize, number: u32)
+    requires { at + 4 ≤ 512 }
+    ensures { cell.new ≡ paste cell.old at (le4 number) 4 }
 {
-    let four = number.to_le_bytes();
-    bytes[at..at + 4].copy_from_slice(&four);
+    cell[at..at + 4].copy_from_slice(&number.to_le_bytes());
 }
 
 // A cell was to be stored in other than 512 bytes.

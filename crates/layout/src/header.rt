@@ -67,7 +67,7 @@ impl Header {
     pub fn fits(&self, shape: &Shape) -> bool
         ensures { result ≡ header_fits shape.now self.now }
     {
-        (self.used <= shape.cells.saturating_sub(1)) & goods_fit(shape, &self.good)
+        self.used <= shape.cells.saturating_sub(1) && goods_fit(shape, &self.good)
     }
 
     pub fn with_used(self, used: u32) -> Header
@@ -91,11 +91,9 @@ impl Header {
 fn goods_fit(shape: &Shape, good: &[u32; 16]) -> bool
     ensures { result ≡ goods_fit shape.now.slots shape.now.blocks 16 good.now }
 {
-    let mut fit = true;
-    for (slot, stripes) in good.iter().enumerate() {
-        fit = (*stripes <= shape.most_good(slot)) & fit;
-    }
-    fit
+    good.iter()
+        .enumerate()
+        .all(|(slot, stripes)| *stripes <= shape.most_good(slot))
 }
 
 // The sixteen counts of good stripes in a cell 0.
@@ -110,10 +108,7 @@ fn front(shape: &Shape, used: u32) -> [u8; 512]
     ensures { result ≡ front_bytes shape.now used ++ replicate 492 0 }
 {
     let mut cell = [0u8; 512];
-    cell[0] = 0x50;
-    cell[1] = 0x4C;
-    cell[2] = 0x4F;
-    cell[3] = 0x47;
+    cell[..4].copy_from_slice(b"PLOG");
     cell[4] = shape.code;
     cell[5] = shape.columns;
     cell[6] = shape.slots;
