@@ -1,4 +1,4 @@
-use Rattle.std.proofs.Common.{◌∙◌, leb, ltb, cond, rules, arith}
+use Rattle.std.proofs.Common.{◌∙◌, leb, ltb, cond, rules}
 use borrow.Author.Tests.{tests}
 use Rattle.std.proofs.lemmas.Iterator.{YieldsList-from_slice}
 use Rattle.std.proofs.lemmas.Iterator.Consumers.{YieldsList-from_enumerate}

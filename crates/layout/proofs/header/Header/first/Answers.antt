@@ -1,6 +1,5 @@
-use Rattle.std.proofs.Common.{◌≡◌, ℕ, List, cond, ltb, map, ap, rules}
+use Rattle.std.proofs.Common.{◌≡◌, cond, ltb, map, rules}
 use Rattle.std.specs.List.{range_with_len}
-use Rattle.layout.specs.declared.header.Header.{Header}
 use Rattle.layout.proofs.Filling.{filled}
 use Rattle.layout.proofs.header.Header.first.Goals as goal
 
