@@ -10,7 +10,7 @@ impl fmt::Display for LogFault {
             LogFault::Pending(stripe) => write!(f, "log: stripe {stripe} has pending records"),
             LogFault::Damaged(cell) => write!(f, "log: damaged at cell {cell}"),
             LogFault::Overfull => write!(f, "log: no room for the parity records that it owes"),
-            LogFault::AtCell(fault) => fault.fmt(f),
+            LogFault::AtCell(fault) => write!(f, "{fault}"),
         }
     }
 }
@@ -24,7 +24,7 @@ impl fmt::Display for StripeFault {
                 f,
                 "stripe: {stripe} has {lost} lost columns, more than its checks restore"
             ),
-            StripeFault::AtBlock(fault) => fault.fmt(f),
+            StripeFault::AtBlock(fault) => write!(f, "{fault}"),
         }
     }
 }
@@ -42,9 +42,9 @@ impl fmt::Display for ArrayFault {
                 f,
                 "array: cell 0 is not as laid out for this code and backplane"
             ),
-            ArrayFault::OfBackplane(fault) => fault.fmt(f),
-            ArrayFault::OfLog(fault) => fault.fmt(f),
-            ArrayFault::OfStripe(fault) => fault.fmt(f),
+            ArrayFault::OfBackplane(fault) => write!(f, "{fault}"),
+            ArrayFault::OfLog(fault) => write!(f, "{fault}"),
+            ArrayFault::OfStripe(fault) => write!(f, "{fault}"),
         }
     }
 }

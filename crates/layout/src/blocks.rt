@@ -8,6 +8,7 @@ use std::error::Error;
 use std::fmt;
 
 // Adds src to dst, as far as both go. Blocks are added here and in `sum_into` only.
+// No `zip`: of what is written through one a proof knows nothing.
 pub fn add_into(dst: &mut [u8], src: &[u8])
     ensures after { dst.new ≡ summed_to dst.old src.now (min (length dst.old) (length src.now)) dst.old }
     ensures whole { length src.now ≡ length dst.old → dst.new ≡ sum_of dst.old src.now }
@@ -19,6 +20,7 @@ pub fn add_into(dst: &mut [u8], src: &[u8])
 }
 
 // Stores the sum of a and b in dst, as far as all three go. Each byte is stored once, with the sum in it.
+// The loop is its own: dst cannot be lent as a too.
 pub fn sum_into(dst: &mut [u8], a: &[u8], b: &[u8])
     ensures after { dst.new ≡ summed_to a.now b.now (min (length dst.old) (min (length a.now) (length b.now))) dst.old }
     ensures whole { length a.now ≡ length dst.old → length b.now ≡ length dst.old → dst.new ≡ sum_of a.now b.now }

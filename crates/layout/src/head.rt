@@ -12,9 +12,10 @@ pub enum Head {
     OfParity(u32),
 }
 
-// The numbers of the two kinds of records in the cells of the log.
+// The first byte of a write record's head.
 const WRITE: u8 = 1;
 
+// That of a parity record's.
 const PARITY: u8 = 2;
 
 impl Head {

@@ -7,6 +7,7 @@ use crate::blocks::{WrongLength, is_cell, number_at, put_number, store_cell};
 use crate::shape::Shape;
 use std::array;
 
+// The shape stands beside it in cell 0, but the array takes that from its backplane and holds the header alone.
 #[derive(Clone, Copy, Debug, PartialEq, Eq)]
 pub struct Header {
     // the log cells in use
@@ -80,6 +81,7 @@ impl Header {
     pub fn with_good(mut self, slot: u32, stripes: u32) -> Header
         ensures { result ≡ with_good self slot stripes }
     {
+        // by index: after a `get_mut` a proof knows the length alone
         if slot < 16 {
             self.good[slot as usize] = stripes;
         }
