@@ -6,7 +6,7 @@ ghost use Rattle.faults.specs.declared.fault.ArrayFault.TheVariants.{OfBackplane
 
 use backplane::fault::BackplaneFault;
 
-#[derive(Clone, Copy)]
+#[derive(Clone, Copy, Debug, PartialEq, Eq)]
 pub enum LogFault {
     // the log has no room for the record; so many cells are free
     Full(u32),
@@ -19,7 +19,7 @@ pub enum LogFault {
     AtCell(BackplaneFault),
 }
 
-#[derive(Clone, Copy)]
+#[derive(Clone, Copy, Debug, PartialEq, Eq)]
 pub enum StripeFault {
     // there is no block of this number
     NoBlock,
@@ -30,7 +30,7 @@ pub enum StripeFault {
     AtBlock(BackplaneFault),
 }
 
-#[derive(Clone, Copy)]
+#[derive(Clone, Copy, Debug, PartialEq, Eq)]
 pub enum ArrayFault {
     // the block given is not 512 bytes
     BlockLength,

@@ -37,5 +37,12 @@ module _ (xs ys held : List ℕ) (i : ℕ) (h : i < length xs) (k : i < length y
       ap (λ (z : List ℕ). get_or (p ++ z) i 0) (drop_more held i 0 l)
       ∙ get_or_at p (get_or held i 0) (drop (i + 1) held) 0 i (length_front xs ys i (omega arith) (omega arith))
 
+-- the sums stored over the first n bytes alone, and then the rest
+pub summed_to-front : (xs ys held : List ℕ) (n : ℕ) → summed_to xs ys n (take n held) ++ drop n held ≡ summed_to xs ys n held
+summed_to-front xs ys held n =
+    let p : List ℕ = sum_of (take n xs) (take n ys) in
+    ap (λ (z : List ℕ). (p ++ z) ++ drop n held) (drop_all n (take n held) (simp length-take (omega arith)))
+    ∙ ap (λ (z : List ℕ). z ++ drop n held) (append-nil p)
+
 pub summed_to-all : (xs ys held : List ℕ) (i : ℕ) → length xs ≤ i → length ys ≤ i → length held ≤ i → summed_to xs ys i held ≡ sum_of xs ys
 summed_to-all xs ys held i h k l = simp (take_all, drop_all, append-nil)

@@ -1,9 +1,12 @@
 -- What is encoded from a header that fits is as laid out, and holds that header.
-use Rattle.std.proofs.Common.{◌≡◌, ℕ, zero, suc, ◌+◌, ◌-◌, ◌*◌, ◌<◌, ◌≤◌, Bool, true, false, cond, ◌&&◌, ltb, leb, List, ◌++◌, length, get_or, replicate, sym, refl, ap, ◌∙◌, inl, inr, add-one, arith}
-use Rattle.std.specs.List.{flat_map}
+use Rattle.std.proofs.Common.{◌≡◌, ℕ, zero, suc, ◌+◌, ◌-◌, ◌*◌, ◌<◌, ◌≤◌, Bool, true, false, cond, ◌&&◌, ltb, leb, List, ◌++◌, length, get_or, take, replicate, sym, refl, ap, ◌∙◌, ap₂, inl, inr, add-one, arith}
+use Rattle.std.specs.List.{flat_map, list_all, enumerate_from}
+use Rattle.std.proofs.Math.Bool.{and_comm}
+use Rattle.std.proofs.lemmas.List.{take_all}
+use Rattle.std.proofs.lemmas.List.Folds.{list_all_more}
 use Rattle.std.specs.Str.{bytes_eq}
 use Rattle.std.proofs.lemmas.Bool.{and_parts, and_from, leb-true, cases_eq}
-use Rattle.std.proofs.lemmas.List.FromFn.{fill_by_all}
+use Rattle.std.proofs.lemmas.List.FromFn.{fill_by_all, length-enumerate_from, get_or-enumerate_from}
 use Rattle.std.proofs.lemmas.Slice.Eq.{bytes_eq-Decides}
 use Rattle.layout.specs.Bytes.{le4, four_at}
 use Rattle.layout.specs.Limits.{within_limits}
@@ -33,9 +36,22 @@ goods-at slots blocks (suc n) good e d h =
       | inr o ↦ goods-at slots blocks n good p.1 d (omega arith)
     ]
 
-pub goods_fit-more : (slots blocks d : ℕ) (good : List ℕ) → goods_fit slots blocks (d + 1) good ≡ (leb (get_or good d 0) (cond (ltb d slots) blocks 0) && goods_fit slots blocks d good)
+fits-front : (slots blocks : ℕ) (good : List ℕ) (i : ℕ) → i ≤ length good → list_all (λ (p : ℕ × ℕ). leb p.1 (cond (ltb p.0 slots) blocks 0)) (take i (enumerate_from 0 good)) ≡ goods_fit slots blocks i good
 unfolding goods_fit
-goods_fit-more slots blocks d good = ap (λ (n : ℕ). goods_fit slots blocks n good) (add-one d)
+fits-front slots blocks good zero h = refl
+fits-front slots blocks good (suc i) h =
+    let f : ℕ × ℕ → Bool = λ p. leb p.1 (cond (ltb p.0 slots) blocks 0) in
+    let l = length-enumerate_from 0 good in
+    let m = list_all_more f (enumerate_from 0 good) i (0, 0) (omega arith) in
+    let e = get_or-enumerate_from 0 good i (0, 0) (omega arith) in
+    let z : 0 + i ≡ i = omega arith in
+    ap (λ (k : ℕ). list_all f (take k (enumerate_from 0 good))) (sym (add-one i)) ∙ m ∙ ap₂ (λ (a b : Bool). a && b) (fits-front slots blocks good i (omega arith)) (ap f e ∙ ap (λ (j : ℕ). leb (get_or good i 0) (cond (ltb j slots) blocks 0)) z) ∙ and_comm (goods_fit slots blocks i good) (leb (get_or good i 0) (cond (ltb i slots) blocks 0))
+
+-- each of sixteen counts, tried in turn
+pub all_fit : (slots blocks : ℕ) (good : List ℕ) → length good ≡ 16 → list_all (λ (p : ℕ × ℕ). leb p.1 (cond (ltb p.0 slots) blocks 0)) (enumerate_from 0 good) ≡ goods_fit slots blocks 16 good
+all_fit slots blocks good n =
+    let l = length-enumerate_from 0 good in
+    sym (ap (list_all (λ (p : ℕ × ℕ). leb p.1 (cond (ltb p.0 slots) blocks 0))) (take_all 16 (enumerate_from 0 good) (omega arith))) ∙ fits-front slots blocks good 16 (omega arith)
 
 cond-most : (b : Bool) (n : ℕ) → cond b n 0 ≤ n
 cond-most true n = omega arith

@@ -1,4 +1,5 @@
 pub mod Adding
+pub mod Filling
 pub mod Rotation
 pub mod Numbers
 pub mod Headers

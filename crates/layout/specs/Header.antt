@@ -43,6 +43,10 @@ is_laid_out rows sh x = within_limits rows sh && (header_fits sh (header_in x) &
 abbrev pub header_of : ℕ → Shape → List ℕ → Option Header
 header_of rows sh x = cond (is_laid_out rows sh x) (Some (header_in x)) None
 
+-- the header of an array just formatted: the log is empty, and every stripe of each slot is good
+abbrev pub first_header : ℕ → ℕ → Header
+first_header slots blocks = record { used = 0; good = map (λ d. cond (nat_lt d slots) blocks 0) (range_with_len 0 16) }
+
 -- a header with another count of cells in use, or with other good stripes for a slot
 abbrev pub with_used : Header → ℕ → Header
 with_used h u = record { used = u; good = h.good }

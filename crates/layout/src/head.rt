@@ -1,11 +1,10 @@
 // The head of a log record.
-ghost use Rattle.std.specs.Prelude.{◌≡◌, ℕ, true, length, IfSome, if◌then◌else◌, Some, ◌==◌, nat_eq};
-ghost use Rattle.std.specs.Str.{bytes_eq};
+ghost use Rattle.std.specs.Prelude.{◌≡◌, ℕ, true, length, IfSome, if◌then◌else◌, Some, is_ok, ◌==◌, nat_eq};
 ghost use Rattle.layout.specs.Head.{head_cell, head_bytes, head_in, head_fits, record_cells};
 
-use crate::blocks::{byte_at, number_at, put_number, wipe};
+use crate::blocks::{WrongLength, byte_at, is_cell, number_at, put_number, store_cell};
 
-#[derive(Clone, Copy)]
+#[derive(Clone, Copy, Debug, PartialEq, Eq)]
 pub enum Head {
     // a write record: the stripe and the data column
     OfWrite(u32, u8),
@@ -13,18 +12,31 @@ pub enum Head {
     OfParity(u32),
 }
 
+// The first byte of a write record's head.
+const WRITE: u8 = 1;
+
+// That of a parity record's.
+const PARITY: u8 = 2;
+
 impl Head {
-    // Fills 512 bytes with this head. Other than 512 bytes stay as they are.
-    pub fn encode(&self, into: &mut [u8]) -> bool
-        ensures done { result ≡ (length into.old == 512) }
-        ensures bytes { into.new ≡ (if nat_eq (length into.old) 512 then head_bytes self.now else into.old) }
-        ensures back { (k stripes : ℕ) → result ≡ true → head_fits k stripes self.now ≡ true → head_in k stripes into.new ≡ Some self.now }
+    // The cell that holds this head.
+    pub fn cell(&self) -> [u8; 512]
+        ensures bytes { result ≡ head_bytes self.now }
+        ensures back { (k stripes : ℕ) → head_fits k stripes self.now ≡ true → head_in k stripes result ≡ Some self.now }
     {
-        if into.len() != 512 {
-            return false;
+        match *self {
+            Head::OfWrite(stripe, column) => cell_of(WRITE, column, stripe),
+            Head::OfParity(stripe) => cell_of(PARITY, 0, stripe),
         }
-        encode_cell(self, into);
-        true
+    }
+
+    // Fills 512 bytes with this head. Other than 512 bytes stay as they are.
+    pub fn encode(&self, into: &mut [u8]) -> Result<(), WrongLength>
+        ensures done { is_ok result ≡ (length into.old == 512) }
+        ensures bytes { into.new ≡ (if nat_eq (length into.old) 512 then head_bytes self.now else into.old) }
+        ensures back { (k stripes : ℕ) → is_ok result ≡ true → head_fits k stripes self.now ≡ true → head_in k stripes into.new ≡ Some self.now }
+    {
+        store_cell(&self.cell(), into)
     }
 }
 
@@ -35,11 +47,13 @@ pub fn decode_head(k: u8, stripes: u32, cell: &[u8]) -> Option<Head>
 {
     let column = byte_at(cell, 1);
     let stripe = number_at(cell, 4);
-    if (stripe < stripes) & ((column < k) & is_head(1, column, stripe, cell)) {
-        return Some(Head::OfWrite(stripe, column));
+    let write = Head::OfWrite(stripe, column);
+    if stripe < stripes && column < k && is_cell(cell, &write.cell()) {
+        return Some(write);
     }
-    if (stripe < stripes) & is_head(2, 0, stripe, cell) {
-        return Some(Head::OfParity(stripe));
+    let parity = Head::OfParity(stripe);
+    if stripe < stripes && is_cell(cell, &parity.cell()) {
+        return Some(parity);
     }
     None
 }
@@ -54,34 +68,12 @@ pub fn record_cells(rows: u32, head: Head) -> u64
     }
 }
 
-fn encode_cell(head: &Head, into: &mut [u8])
-    requires { length into.old ≡ 512 }
-    ensures bytes { into.new ≡ head_bytes head.now }
-    ensures back { (k stripes : ℕ) → head_fits k stripes head.now ≡ true → head_in k stripes into.new ≡ Some head.now }
+fn cell_of(kind: u8, column: u8, stripe: u32) -> [u8; 512]
+    ensures { result ≡ head_cell kind column stripe }
 {
-    match *head {
-        Head::OfWrite(stripe, column) => fill_head(1, column, stripe, into),
-        Head::OfParity(stripe) => fill_head(2, 0, stripe, into),
-    }
-}
-
-fn fill_head(kind: u8, column: u8, stripe: u32, into: &mut [u8])
-    requires { length into.old ≡ 512 }
-    ensures { into.new ≡ head_cell kind column stripe }
-{
-    wipe(into);
-    into[0] = kind;
-    into[1] = column;
-    put_number(into, 4, stripe);
-}
-
-// Whether a cell holds just this head.
-fn is_head(kind: u8, column: u8, stripe: u32, cell: &[u8]) -> bool
-    ensures value { result ≡ bytes_eq cell.now (head_cell kind column stripe) }
-    ensures same { result ≡ true → head_cell kind column stripe ≡ cell.now }
-{
-    let mut head = [0u8; 512];
-    fill_head(kind, column, stripe, &mut head);
-    let encoded: &[u8] = &head;
-    cell == encoded
+    let mut cell = [0u8; 512];
+    cell[0] = kind;
+    cell[1] = column;
+    put_number(&mut cell, 4, stripe);
+    cell
 }

@@ -10,10 +10,7 @@ pub fn mark(map: &mut [u8], stripe: u32)
     ensures within { stripe < 8 * length map.old → (t : ℕ) → marked map.new t ≡ (if nat_eq t stripe then true else marked map.old t) }
     ensures past { 8 * length map.old ≤ stripe → map.new ≡ map.old }
 {
-    let at = stripe as usize / 8;
-    if at < map.len() {
-        map[at] = with_bit(map[at], stripe % 8);
-    }
+    set_mark(map, stripe, true);
 }
 
 // Takes a stripe's mark away, if it has room.
@@ -21,10 +18,7 @@ pub fn unmark(map: &mut [u8], stripe: u32)
     ensures within { stripe < 8 * length map.old → (t : ℕ) → marked map.new t ≡ (if nat_eq t stripe then false else marked map.old t) }
     ensures past { 8 * length map.old ≤ stripe → map.new ≡ map.old }
 {
-    let at = stripe as usize / 8;
-    if at < map.len() {
-        map[at] = without_bit(map[at], stripe % 8);
-    }
+    set_mark(map, stripe, false);
 }
 
 // Whether a stripe is marked; one without room never is.
@@ -38,39 +32,35 @@ pub fn is_marked(map: &[u8], stripe: u32) -> bool
 pub fn count_marked(map: &[u8], stripes: u32) -> u32
     ensures { result ≡ count stripes (marked map.now) }
 {
-    let mut n = 0;
-    for s in 0..stripes {
-        if is_marked(map, s) {
-            n += 1;
-        }
-    }
-    n
+    (0..stripes).filter(|s| is_marked(map, *s)).count() as u32
 }
 
 // The lowest of so many stripes that is marked, if any is.
 pub fn lowest_marked(map: &[u8], stripes: u32) -> Option<u32>
     ensures { result ≡ first_of stripes (marked map.now) }
 {
-    for stripe in 0..stripes {
-        if is_marked(map, stripe) {
-            return Some(stripe);
-        }
+    (0..stripes).find(|s| is_marked(map, *s))
+}
+
+fn set_mark(map: &mut [u8], stripe: u32, on: bool)
+    ensures within { stripe < 8 * length map.old → (t : ℕ) → marked map.new t ≡ (if nat_eq t stripe then on else marked map.old t) }
+    ensures past { 8 * length map.old ≤ stripe → map.new ≡ map.old }
+{
+    let at = stripe as usize / 8;
+    if at < map.len() {
+        map[at] = with_bit(map[at], stripe % 8, on);
     }
-    None
 }
 
-fn with_bit(byte: u8, bit: u32) -> u8
+fn with_bit(byte: u8, bit: u32, on: bool) -> u8
     requires { bit < 8 }
-    ensures { (j : ℕ) → j < 8 → bit_of result j ≡ (if nat_eq j bit then true else bit_of byte j) }
+    ensures { (j : ℕ) → j < 8 → bit_of result j ≡ (if nat_eq j bit then on else bit_of byte j) }
 {
-    byte | (1 << bit)
-}
-
-fn without_bit(byte: u8, bit: u32) -> u8
-    requires { bit < 8 }
-    ensures { (j : ℕ) → j < 8 → bit_of result j ≡ (if nat_eq j bit then false else bit_of byte j) }
-{
-    byte & !(1 << bit)
+    if on {
+        byte | (1 << bit)
+    } else {
+        byte & !(1 << bit)
+    }
 }
 
 fn has_bit(byte: u8, bit: u32) -> bool

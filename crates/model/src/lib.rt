@@ -6,29 +6,25 @@ ghost use Rattle.model.specs.Promise.{Promise, Promised, FormatRight, FormatDone
 use codes::Code;
 
 // The promise stands: every run on an array just formatted, with every power cut, has right replies and leaves right disks.
-pub fn promise_stands() -> u8
+pub fn promise_stands()
     ensures { Promise }
 {
-    0
 }
 
 // The promise for one code.
-pub fn promise_of<C: Code>() -> u8
+pub fn promise_of<C: Code>()
     ensures { Promised C.Code.number C.Code.rows C.Code.check C.Code.solved }
 {
-    0
 }
 
 // A format that is done leaves an array just formatted.
-pub fn format_stands() -> u8
+pub fn format_stands()
     ensures { FormatRight }
 {
-    0
 }
 
 // The same for one code.
-pub fn format_of<C: Code>() -> u8
+pub fn format_of<C: Code>()
     ensures { FormatDone C.Code.number C.Code.rows C.Code.check C.Code.solved }
 {
-    0
 }

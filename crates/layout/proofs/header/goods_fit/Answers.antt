@@ -1,20 +1,14 @@
-use Rattle.std.proofs.Common.{◌≡◌, ℕ, Bool, ◌&&◌, leb, get_or, sym, refl, ap, ◌∙◌, ap₂, arith}
-use Rattle.layout.specs.Header.{goods_fit}
-use Rattle.layout.proofs.Headers.{goods_fit-more}
+use Rattle.std.proofs.Common.{◌∙◌, leb, ltb, cond, rules}
+use borrow.Author.Tests.{tests}
+use Rattle.std.proofs.lemmas.Iterator.{YieldsList-from_slice}
+use Rattle.std.proofs.lemmas.Iterator.Consumers.{YieldsList-from_enumerate}
+use Rattle.std.proofs.lemmas.Iterator.Search.{all_from_yields_List}
+use Rattle.layout.proofs.Headers.{all_fit}
 use Rattle.layout.proofs.header.goods_fit.Goals as goal
-
-pub loop-d-preserved : goal.loop-d-preserved
-loop-d-preserved c =
-    let good = c.args.good.now in
-    let d = c.loop-d.d in
-    ap₂ (λ (m : ℕ) (b : Bool). leb (get_or good d 0) m && b) c.most_good-most.ensures c.loop-d.invariant
-    ∙ sym (goods_fit-more c.args.slots c.args.blocks d good)
 
 pub returns : goal.returns
 returns c =
-    let e : c.loop-d.d ≡ 16 = omega arith in
-    c.loop-d.invariant ∙ ap (λ (n : ℕ). goods_fit c.args.slots c.args.blocks n c.args.good.now) e
-
-pub loop-d-init : goal.loop-d-init
-unfolding goods_fit
-loop-d-init c = refl
+    let sh = c.args.shape.now in
+    let good = c.args.good.now in
+    all_from_yields_List (λ p. leb p.1 (cond (ltb p.0 sh.slots) sh.blocks 0)) _ _ c.all.result c.all.ensures.ran (YieldsList-from_enumerate (YieldsList-from_slice good (cc)) (cc)) (λ x b q k. search (rules, tests))
+    ∙ all_fit sh.slots sh.blocks good (search rules)

@@ -1,6 +1,6 @@
 use Rattle.std.proofs.Common.{◌≡◌}
 use Rattle.layout.specs.Bytes.{summed_to}
-use Rattle.layout.proofs.blocks.add_front.Given as goal
+use Rattle.layout.proofs.blocks.sum_into.Given as goal
 
 abbrev pub invariant-loop-i : goal.invariant-loop-i
-invariant-loop-i l = l.dst ≡ summed_to l.initial.dst l.src l.i l.initial.dst
+invariant-loop-i l = l.d-items ≡ summed_to l.a l.b l.i l.initial.d-items

@@ -1,6 +1,0 @@
-use Rattle.std.proofs.Common.{◌≡◌}
-use Rattle.layout.specs.Bytes.{summed_to}
-use Rattle.layout.proofs.blocks.sum_front.Given as goal
-
-abbrev pub invariant-loop-i : goal.invariant-loop-i
-invariant-loop-i l = l.dst ≡ summed_to l.a l.b l.i l.initial.dst
