@@ -34,12 +34,6 @@ pub record MarksOwing {B : Type 0} (K : Coding B) (stripes : ℕ) (l : List (Rec
   pub number : count stripes (marked map) ≡ owed K stripes l
   pub first : first_of stripes (marked map) ≡ lowest_owing K stripes l
 
--- the write records of stripe s among these
-abbrev pub writes_of : {B : Type 0} → ℕ → List (Rec B) → ℕ
-writes_of s [] = 0
-writes_of s (write t c x y ∷ l) = cond (s == t) 1 0 + writes_of s l
-writes_of s (parity t f ∷ l) = writes_of s l
-
 -- whether a head is that of a write record of stripe s
 abbrev pub is_write_of : ℕ → Head → Bool
 is_write_of s (OfWrite t c) = s == t
