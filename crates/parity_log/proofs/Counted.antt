@@ -1,5 +1,5 @@
 -- The pending records of a stripe as what a walk counts.
-use Rattle.std.proofs.Common.{◌≡◌, ℕ, ◌+◌, Bool, cond, eqb, List, refl, zero-add}
+use Rattle.std.proofs.Common.{◌≡◌, ℕ, ◌+◌, cond, refl, zero-add}
 use Rattle.backplane.specs.Plane.{Plane}
 use Rattle.layout.specs.declared.head.Head.{Head}
 use Rattle.model.specs.Coding.{Coding}

@@ -1,10 +1,9 @@
 -- The walk over the log, one record on.
-use Rattle.std.proofs.Common.{◌≡◌, ℕ, zero, suc, ◌+◌, ◌-◌, ◌<◌, ◌≤◌, ◌⊎◌, Bool, true, false, cond, ◌&&◌, eqb, ltb, leb, List, [], ◌∷◌, length, Some, None, Ok, Err, Option, Result, sym, refl, ap, ◌∙◌, subst, inl, inr, arith}
+use Rattle.std.proofs.Common.{◌≡◌, ℕ, zero, suc, ◌+◌, ◌-◌, ◌<◌, ◌≤◌, Bool, true, false, cond, ◌&&◌, eqb, ltb, leb, List, [], ◌∷◌, length, Some, None, Ok, Err, Option, sym, refl, ap, ◌∙◌, subst, inl, inr, arith}
 use Rattle.std.proofs.lemmas.Bool.{lt-ltb, le-ltb, leb-true, ltb-true, ltb-false}
 use Rattle.backplane.specs.Plane.{Plane, to_cell}
 use Rattle.backplane.specs.Meaning.{Bytes, fault_of}
-use Rattle.backplane.specs.declared.fault.BackplaneFault.{BackplaneFault}
-use Rattle.backplane.specs.declared.fault.BackplaneFault.TheVariants.{Off, NoPlace, Dead}
+use Rattle.backplane.specs.declared.fault.BackplaneFault.TheVariants.{Off, NoPlace}
 use Rattle.layout.specs.declared.head.Head.{Head}
 use Rattle.layout.specs.declared.head.Head.TheVariants.{OfWrite, OfParity}
 use Rattle.layout.specs.Head.{head_in, record_cells}
@@ -13,7 +12,7 @@ use Rattle.model.specs.Log.{Rec, Walked, or_else, head_of, cells_of, record_from
 use Rattle.codes.specs.declared.code.Code.{Ghosts as CodeGhosts}
 use Rattle.parity_log.specs.declared.log.Log.{Log}
 use Rattle.parity_log.specs.Codes.{coding}
-use Rattle.parity_log.specs.Walks.{head_at, fold_from, rest, parity_at, last_head, last_parity, resume_at, walk_end, LastAt, Over, Next}
+use Rattle.parity_log.specs.Walks.{head_at, fold_from, rest, parity_at, last_head, last_parity, resume_at, walk_end, Over, Next}
 use Rattle.faults.specs.declared.fault.LogFault.TheVariants.{Damaged}
 
 pub cells-some : (rows : ℕ) (h : Head) → 1 ≤ record_cells rows h

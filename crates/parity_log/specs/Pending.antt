@@ -1,5 +1,5 @@
 -- Stripes with pending records, as marks.
-use Rattle.std.specs.Prelude.{◌≡◌, ℕ, ◌+◌, ◌*◌, ◌<◌, Bool, true, false, cond, List, [], ◌∷◌, Some, None, Option, ◌==◌, nat_lt}
+use Rattle.std.specs.Prelude.{◌≡◌, ℕ, ◌*◌, ◌<◌, Bool, true, false, cond, List, [], ◌∷◌, Some, None, Option, ◌==◌, nat_lt}
 use Rattle.backplane.specs.declared.fault.BackplaneFault.{BackplaneFault}
 use Rattle.backplane.specs.declared.fault.BackplaneFault.TheVariants.{NoPlace}
 use Rattle.layout.specs.Counts.{count, lowest, first_of}
@@ -7,7 +7,7 @@ use Rattle.layout.specs.Marks.{marked}
 use Rattle.layout.specs.declared.head.Head.{Head}
 use Rattle.layout.specs.declared.head.Head.TheVariants.{OfWrite, OfParity}
 use Rattle.model.specs.Coding.{Coding}
-use Rattle.model.specs.Log.{Rec, write, parity, owing, owed}
+use Rattle.model.specs.Log.{Rec, write, owing, owed}
 
 -- whether stripe t has pending records after one more record, b saying whether it had before
 abbrev pub owing_after : Head → ℕ → Bool → Bool

@@ -46,14 +46,14 @@ impl Log {
         self.find_parity::<B, C>(plane, stripe, buf)
     }
 
-    fn find_parity<B: Backplane, C: Code>(
+    // The same with no first read of the last cell in use, for a log that is known to be there.
+    pub fn find_parity<B: Backplane, C: Code>(
         self,
         plane: &mut B,
         stripe: u32,
         buf: &mut [u8],
     ) -> Result<Option<u32>, BackplaneFault>
-        requires { fault_of (to_cell self.used buf.old) (B.Backplane.view plane.old) ≡ None }
-        ensures value { result ≡ Ok (last_parity (coding C.Code self.columns) (B.Backplane.view plane.old) self.used stripe) }
+        ensures value { fault_of (to_cell self.used buf.old) (B.Backplane.view plane.old) ≡ None → result ≡ Ok (last_parity (coding C.Code self.columns) (B.Backplane.view plane.old) self.used stripe) }
         ensures kept { B.Backplane.view plane.new ≡ B.Backplane.view plane.old }
     {
         let mut records = self.records();
@@ -80,9 +80,7 @@ impl Log {
         let mut records = self.records_after::<C>(last);
         let mut count = 0;
         while let Some((_, head)) = records.next::<B, C>(plane, buf)? {
-            if is_write_of(stripe, head) {
-                count += 1;
-            }
+            count += u32::from(is_write_of(stripe, head));
         }
         Ok(count)
     }

@@ -33,7 +33,7 @@ pub(crate) fn add_pending<B: Backplane, C: Code>(
     ensures each { (c : ℕ) → c < log.columns + C.Code.rows → column_in row.new c ≡ (if flagged leave.now c then column_in row.old c else settled_with (coding C.Code log.columns) (walk (coding C.Code log.columns) (B.Backplane.view plane.old) log.used).log stripe c (column_in row.old c)) }
     ensures kept { B.Backplane.view plane.new ≡ B.Backplane.view plane.old }
 {
-    let last = log.last_parity::<B, C>(plane, stripe, cell)?;
+    let last = log.find_parity::<B, C>(plane, stripe, cell)?;
     add_after::<B, C>(plane, log, stripe, last, leave, row, cell)
 }
 

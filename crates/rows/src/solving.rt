@@ -74,8 +74,8 @@ fn gather(row: &[u8], i: usize, into: &mut [u8])
     requires room { 512 * length into.old ≤ length row.now }
     ensures { into.new ≡ across (length into.old) (column_in row.now) i }
 {
-    for c in 0..into.len() {
-        into[c] = row[512 * c + i];
+    for (c, byte) in into.iter_mut().enumerate() {
+        *byte = row[512 * c + i];
     }
 }
 
@@ -86,7 +86,7 @@ fn scatter(row: &mut [u8], i: usize, from: &[u8])
     requires room { 512 * length from.now ≤ length row.old }
     ensures { PlacePut (length from.now) i from.now row.old row.new }
 {
-    for c in 0..from.len() {
-        row[512 * c + i] = from[c];
+    for (c, byte) in from.iter().enumerate() {
+        row[512 * c + i] = *byte;
     }
 }

@@ -1,4 +1,4 @@
-use Rattle.std.proofs.Common.{◌≡◌, ℕ, List, Ok, Some, None, Option, ap, ◌∙◌, arith}
+use Rattle.std.proofs.Common.{◌≡◌, ℕ, List, Ok, Some, None, Option, Result, ap, ◌∙◌, arith}
 use Rattle.backplane.specs.Meaning.{Bytes}
 use Rattle.backplane.specs.declared.fault.BackplaneFault.{BackplaneFault}
 use Rattle.parity_log.specs.Codes.{coding}
@@ -11,10 +11,8 @@ use Rattle.rows.proofs.Placed.{length-column}
 use Rattle.rows.proofs.Grown.{grown-is}
 use Rattle.rows.proofs.pending.add_pending.Goals as goal
 
--- what is answered where there is no fault
-there : (o : Option BackplaneFault) (a b : Option ℕ) → o ≡ None → Ok a ≡ unless_fault o (Ok b) → a ≡ b
-there None a b n e = cc
-there (Some f) a b n e = absurd (let z : ◌≡◌ {A = ℕ} 0 1 = cc in omega arith)
+there : (a b : Option ℕ) → ◌≡◌ {A = Result (Option ℕ) BackplaneFault} (Ok a) (Ok b) → a ≡ b
+there a b e = cc
 
 pub returns-clause-each : goal.returns-clause-each
 returns-clause-each g c =
@@ -26,7 +24,7 @@ returns-clause-each g c =
     let row : List ℕ = c.args.row.now in
     let leave = c.args.leave.now in
     let f = c.requires.fits in
-    let last = there _ c.in_ok-last.last (last_parity K p u s) (readable u c.args.cell.now p f.power f.cells c.requires.size) c.in_ok-last.ensures.value in
+    let last = there c.in_ok-last.last (last_parity K p u s) (c.in_ok-last.ensures.value (readable u c.args.cell.now p f.power f.cells c.requires.size)) in
     λ j l. c.add_after.ensures.each j l
     ∙ ap (λ (q : Bytes). rest K (grow_step K q (flagged leave) s j) q u (resume_at K c.in_ok-last.last) (column_in row j)) c.in_ok-last.ensures.kept
     ∙ ap (λ (o : Option ℕ). rest K (grow_step K p (flagged leave) s j) p u (resume_at K o) (column_in row j)) last

@@ -1,5 +1,5 @@
-use Rattle.std.proofs.Common.{◌≡◌, ℕ, ◌+◌, Bool, cond, Ok, Option, sym, refl, ap, ◌∙◌, arith}
-use Rattle.model.specs.Log.{walk, pending}
+use Rattle.std.proofs.Common.{◌≡◌, ℕ, ◌+◌, ◌≤◌, Bool, true, false, cond, Ok, Option, sym, refl, ap, ◌∙◌, arith}
+use mir.Val.{bool_byte}
 use Rattle.parity_log.specs.Codes.{coding}
 use Rattle.parity_log.specs.Pending.{is_write_of}
 use Rattle.parity_log.specs.Walks.{rest, resume_at}
@@ -21,27 +21,13 @@ loop-head-init g c =
           ∙ sym (pending-is K v u s);
     }
 
-pub loop-head-preserved-then-is_write_of : goal.loop-head-preserved-then-is_write_of
-loop-head-preserved-then-is_write_of g c =
-    let v = g.B.Backplane.view c.args.plane.now in
-    let K = coding g.C.Code c.args.self.columns in
-    let u = c.args.self.used in
-    let s = c.args.stripe in
-    let inv = c.loop-head.invariant in
-    let next = c.in_ok-head.ensures in
-    let i = c.loop-head.records.at in
-    let j = c.next.new.self.at in
-    let h = c.in-Some.head in
-    let n = c.loop-head.count in
-    let m = next-some g.C.Code (g.B.Backplane.view c.loop-head.plane) v c.loop-head.records.log c.args.self i c.loop-head.buf j inv.view inv.log c.in_ok-head.field-0 (c.in-Some.field-0-0, h) next.next c.in-Some.is in
-    let one : cond (is_write_of s h) 1 0 + n ≡ 1 + n = ap (λ (b : Bool). cond b 1 0 + n) (sym c.is_write_of.ensures ∙ c.if-is_write_of.true) in
-    let same : n + 1 ≡ count_step s c.in-Some.field-0-0 h n = omega (arith, one) in
-    record {
-      view = next.kept ∙ inv.view;
-      log = next.log ∙ inv.log;
-      few = omega (arith, inv.few, m.more);
-      counted = ap (λ (k : ℕ). rest K (count_step s) v u j k) same ∙ rest-met K v u i c.in-Some.field-0-0 h j (count_step s) n m ∙ inv.counted;
-    }
+byte-is : (b : Bool) → bool_byte b ≡ cond b 1 0
+byte-is true = refl
+byte-is false = refl
+
+few-by : (b : Bool) → cond b 1 0 ≤ 1
+few-by true = omega arith
+few-by false = omega arith
 
 pub loop-head-preserved : goal.loop-head-preserved
 loop-head-preserved g c =
@@ -53,16 +39,18 @@ loop-head-preserved g c =
     let next = c.in_ok-head.ensures in
     let i = c.loop-head.records.at in
     let j = c.next.new.self.at in
+    let at = c.in-Some.field-0-0 in
     let h = c.in-Some.head in
     let n = c.loop-head.count in
-    let m = next-some g.C.Code (g.B.Backplane.view c.loop-head.plane) v c.loop-head.records.log c.args.self i c.loop-head.buf j inv.view inv.log c.in_ok-head.field-0 (c.in-Some.field-0-0, h) next.next c.in-Some.is in
-    let none : cond (is_write_of s h) 1 0 + n ≡ 0 + n = ap (λ (b : Bool). cond b 1 0 + n) (sym c.is_write_of.ensures ∙ c.if-is_write_of.false) in
-    let same : n ≡ count_step s c.in-Some.field-0-0 h n = omega (arith, none) in
+    let m = next-some g.C.Code (g.B.Backplane.view c.loop-head.plane) v c.loop-head.records.log c.args.self i c.loop-head.buf j inv.view inv.log c.in_ok-head.field-0 (at, h) next.next c.in-Some.is in
+    let one : c.from-count.result ≡ cond (is_write_of s h) 1 0 = c.from-count.ensures ∙ byte-is c.is_write_of.result ∙ ap (λ (b : Bool). cond {A = ℕ} b 1 0) c.is_write_of.ensures in
+    let few = few-by (is_write_of s h) in
+    let same : n + c.from-count.result ≡ count_step s at h n = omega (arith, one) in
     record {
       view = next.kept ∙ inv.view;
       log = next.log ∙ inv.log;
-      few = omega (arith, inv.few, m.more);
-      counted = ap (λ (k : ℕ). rest K (count_step s) v u j k) same ∙ rest-met K v u i c.in-Some.field-0-0 h j (count_step s) n m ∙ inv.counted;
+      few = omega (arith, inv.few, m.more, one, few);
+      counted = ap (λ (k : ℕ). rest K (count_step s) v u j k) same ∙ rest-met K v u i at h j (count_step s) n m ∙ inv.counted;
     }
 
 pub returns-clause-value : goal.returns-clause-value

@@ -1,6 +1,6 @@
-use Rattle.std.proofs.Common.{◌≡◌, ℕ, Ok, Some, None, Option, sym, refl, ap, ◌∙◌}
+use Rattle.std.proofs.Common.{ℕ, Ok, None, Option, sym, refl, ap, ◌∙◌}
 use Rattle.parity_log.specs.Codes.{coding}
-use Rattle.parity_log.specs.Walks.{rest, parity_at, last_parity}
+use Rattle.parity_log.specs.Walks.{rest, parity_at}
 use Rattle.parity_log.proofs.Walking.{rest-first, next-some, next-none, rest-over, rest-met}
 use Rattle.parity_log.proofs.log.Log.find_parity.Goals as goal
 
@@ -39,4 +39,4 @@ returns-clause-value g c =
     let s = c.args.stripe in
     let inv = c.loop-at.invariant in
     let over = next-none g.C.Code (g.B.Backplane.view c.loop-at.plane) v c.loop-at.records.log c.args.self c.loop-at.records.at c.loop-at.buf c.next.new.self.at inv.view inv.log c.in_ok-at.field-0 c.in_ok-at.ensures.next c.in_default.is in
-    ap Ok (sym (rest-over K v u c.loop-at.records.at c.loop-at.buf (parity_at s) c.loop-at.last over.0) ∙ inv.found)
+    λ there. ap Ok (sym (rest-over K v u c.loop-at.records.at c.loop-at.buf (parity_at s) c.loop-at.last over.0) ∙ inv.found)

@@ -1,4 +1,4 @@
-use Rattle.std.proofs.Common.{◌≡◌, ℕ, Bool, List, [], length, sym, refl, ap, ◌∙◌, arith}
+use Rattle.std.proofs.Common.{ℕ, Bool, List, [], length, sym, refl, ap, ◌∙◌, arith}
 use Rattle.model.specs.Log.{Rec, owing}
 use Rattle.parity_log.specs.Codes.{coding}
 use Rattle.parity_log.specs.Pending.{owing_after}

@@ -1,9 +1,9 @@
-use Rattle.std.proofs.Common.{◌≡◌, ℕ, ◌<◌, List, [], ◌∷◌, Some, None, Err, Option, sym, refl, ap, ◌∙◌, subst, inl, inr, arith}
+use Rattle.std.proofs.Common.{ℕ, ◌<◌, [], ◌∷◌, Some, None, Err, Option, sym, refl, ap, ◌∙◌, subst, inl, inr, arith}
 use Rattle.layout.specs.declared.head.Head.{Head}
-use Rattle.model.specs.Log.{Rec, record_from}
+use Rattle.model.specs.Log.{record_from}
 use Rattle.faults.specs.declared.fault.LogFault.TheVariants.{Damaged}
 use Rattle.parity_log.specs.Codes.{coding}
-use Rattle.parity_log.specs.Walks.{rest, walk_end, LastAt}
+use Rattle.parity_log.specs.Walks.{rest, LastAt}
 use Rattle.parity_log.proofs.Walking.{Stands, stands-first, stands-next, record_at-some, rest-first, next-some, next-none, rest-met, end-past, end-damaged}
 use Rattle.parity_log.proofs.log.Log.walk_records.Goals as goal
 
