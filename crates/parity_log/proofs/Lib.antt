@@ -1,3 +1,3 @@
 pub mod Walking
+pub mod Counted
 pub mod Owed
-pub mod Resuming

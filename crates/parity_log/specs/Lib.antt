@@ -1,3 +1,4 @@
+pub mod Codes
 pub mod Walks
 pub mod Faults
 pub mod Pending

@@ -1,5 +1,5 @@
 -- Stripes with pending records, as marks.
-use Rattle.std.specs.Prelude.{◌≡◌, ℕ, ◌+◌, ◌*◌, ◌<◌, Bool, true, false, cond, List, [], ◌∷◌, Some, None, Option, ◌==◌, nat_lt}
+use Rattle.std.specs.Prelude.{◌≡◌, ℕ, ◌*◌, ◌<◌, Bool, true, false, cond, List, [], ◌∷◌, Some, None, Option, ◌==◌, nat_lt}
 use Rattle.backplane.specs.declared.fault.BackplaneFault.{BackplaneFault}
 use Rattle.backplane.specs.declared.fault.BackplaneFault.TheVariants.{NoPlace}
 use Rattle.layout.specs.Counts.{count, lowest, first_of}
@@ -7,7 +7,7 @@ use Rattle.layout.specs.Marks.{marked}
 use Rattle.layout.specs.declared.head.Head.{Head}
 use Rattle.layout.specs.declared.head.Head.TheVariants.{OfWrite, OfParity}
 use Rattle.model.specs.Coding.{Coding}
-use Rattle.model.specs.Log.{Rec, write, parity, owing, owed}
+use Rattle.model.specs.Log.{Rec, write, owing, owed}
 
 -- whether stripe t has pending records after one more record, b saying whether it had before
 abbrev pub owing_after : Head → ℕ → Bool → Bool
@@ -33,12 +33,6 @@ pub record MarksOwing {B : Type 0} (K : Coding B) (stripes : ℕ) (l : List (Rec
   pub each : (t : ℕ) → t < stripes → marked map t ≡ owing K l t
   pub number : count stripes (marked map) ≡ owed K stripes l
   pub first : first_of stripes (marked map) ≡ lowest_owing K stripes l
-
--- the write records of stripe s among these
-abbrev pub writes_of : {B : Type 0} → ℕ → List (Rec B) → ℕ
-writes_of s [] = 0
-writes_of s (write t c x y ∷ l) = cond (s == t) 1 0 + writes_of s l
-writes_of s (parity t f ∷ l) = writes_of s l
 
 -- whether a head is that of a write record of stripe s
 abbrev pub is_write_of : ℕ → Head → Bool

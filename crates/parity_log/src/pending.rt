@@ -1,113 +1,88 @@
 // The pending records of a stripe: its write records after its last parity record, if it has one.
-ghost use Rattle.std.specs.Prelude.{◌≡◌, ℕ, ◌+◌, ◌<◌, ◌≤◌, List, length, None, Ok};
+ghost use Rattle.std.specs.Prelude.{◌≡◌, None, Ok};
 ghost use Rattle.backplane.specs.Plane.{to_cell};
 ghost use Rattle.backplane.specs.Meaning.{fault_of};
-ghost use Rattle.model.specs.Coding.{byte_coding};
 ghost use Rattle.model.specs.Log.{walk, pending};
-ghost use Rattle.parity_log.specs.Faults.{or_fault};
+ghost use Rattle.parity_log.specs.Codes.{coding};
+ghost use Rattle.parity_log.specs.Faults.{or_fault, unless_fault};
 ghost use Rattle.parity_log.specs.Pending.{is_write_of};
-ghost use Rattle.parity_log.specs.Walks.{parity_at, last_parity, resume_at, Resumes};
+ghost use Rattle.parity_log.specs.Walks.{parity_at, last_parity};
 
-use crate::walk::{cells_of, head_at};
+use crate::log::Log;
 use backplane::Backplane;
+use backplane::fault::BackplaneFault;
 use codes::Code;
 use faults::fault::LogFault;
 use layout::head::Head;
 
-// How many records of a stripe are pending. `buf` is for one cell.
-pub fn count_pending<B: Backplane, C: Code>(
-    plane: &mut B,
-    k: u8,
-    used: u32,
-    stripe: u32,
-    buf: &mut [u8],
-) -> Result<u32, LogFault>
-    ensures value { result ≡ or_fault (fault_of (to_cell used buf.old) (B.Backplane.view plane.old)) (Ok (pending (byte_coding k C.Code.number C.Code.rows C.Code.check C.Code.solved) stripe (walk (byte_coding k C.Code.number C.Code.rows C.Code.check C.Code.solved) (B.Backplane.view plane.old) used).log)) }
-    ensures kept { B.Backplane.view plane.new ≡ B.Backplane.view plane.old }
-{
-    plane.read_cell(used, buf)?;
-    let last = find_parity::<B, C>(plane, k, used, stripe, buf);
-    Ok(count_after::<B, C>(plane, k, used, stripe, last, buf))
-}
-
-// The cell of the last parity record of a stripe, if it has one.
-pub fn last_parity<B: Backplane, C: Code>(
-    plane: &mut B,
-    k: u8,
-    used: u32,
-    stripe: u32,
-    buf: &mut [u8],
-) -> Result<Option<u32>, LogFault>
-    ensures value { result ≡ or_fault (fault_of (to_cell used buf.old) (B.Backplane.view plane.old)) (Ok (last_parity (byte_coding k C.Code.number C.Code.rows C.Code.check C.Code.solved) (B.Backplane.view plane.old) used stripe)) }
-    ensures kept { B.Backplane.view plane.new ≡ B.Backplane.view plane.old }
-{
-    plane.read_cell(used, buf)?;
-    Ok(find_parity::<B, C>(plane, k, used, stripe, buf))
-}
-
-pub(crate) fn find_parity<B: Backplane, C: Code>(
-    plane: &mut B,
-    k: u8,
-    used: u32,
-    stripe: u32,
-    buf: &mut [u8],
-) -> Option<u32>
-    requires { fault_of (to_cell used buf.old) (B.Backplane.view plane.old) ≡ None }
-    ensures value { result ≡ last_parity (byte_coding k C.Code.number C.Code.rows C.Code.check C.Code.solved) (B.Backplane.view plane.old) used stripe }
-    ensures resumes { Resumes (byte_coding k C.Code.number C.Code.rows C.Code.check C.Code.solved) (B.Backplane.view plane.old) used stripe (walk (byte_coding k C.Code.number C.Code.rows C.Code.check C.Code.solved) (B.Backplane.view plane.old) used).log (resume_at (byte_coding k C.Code.number C.Code.rows C.Code.check C.Code.solved) result) }
-    ensures kept { B.Backplane.view plane.new ≡ B.Backplane.view plane.old }
-    ensures long { length buf.new ≡ length buf.old }
-{
-    let mut at = 1;
-    let mut last = None;
-    loop {
-        if at > used as u64 {
-            break last;
-        }
-        let Some(head) = head_at::<B, C>(plane, k, used, at as u32, buf) else {
-            break last;
-        };
-        last = later_parity(stripe, at as u32, head, last);
-        at += cells_of::<C>(head);
+impl Log {
+    // How many records of a stripe are pending. `buf` is for one cell.
+    pub fn count_pending<B: Backplane, C: Code>(
+        self,
+        plane: &mut B,
+        stripe: u32,
+        buf: &mut [u8],
+    ) -> Result<u32, LogFault>
+        ensures value { result ≡ or_fault (fault_of (to_cell self.used buf.old) (B.Backplane.view plane.old)) (Ok (pending (coding C.Code self.columns) stripe (walk (coding C.Code self.columns) (B.Backplane.view plane.old) self.used).log)) }
+        ensures kept { B.Backplane.view plane.new ≡ B.Backplane.view plane.old }
+    {
+        plane.read_cell(self.used, buf)?;
+        let last = self.find_parity::<B, C>(plane, stripe, buf)?;
+        let count = self.count_after::<B, C>(plane, stripe, last, buf)?;
+        Ok(count)
     }
-}
 
-// The pending records of a stripe whose last parity record is known.
-pub(crate) fn count_after<B: Backplane, C: Code>(
-    plane: &mut B,
-    k: u8,
-    used: u32,
-    stripe: u32,
-    last: Option<u32>,
-    buf: &mut [u8],
-) -> u32
-    requires plane_value { fault_of (to_cell used buf.old) (B.Backplane.view plane.old) ≡ None }
-    requires resumes { Resumes (byte_coding k C.Code.number C.Code.rows C.Code.check C.Code.solved) (B.Backplane.view plane.old) used stripe (walk (byte_coding k C.Code.number C.Code.rows C.Code.check C.Code.solved) (B.Backplane.view plane.old) used).log (resume_at (byte_coding k C.Code.number C.Code.rows C.Code.check C.Code.solved) last) }
-    ensures value { result ≡ pending (byte_coding k C.Code.number C.Code.rows C.Code.check C.Code.solved) stripe (walk (byte_coding k C.Code.number C.Code.rows C.Code.check C.Code.solved) (B.Backplane.view plane.old) used).log }
-    ensures kept { B.Backplane.view plane.new ≡ B.Backplane.view plane.old }
-{
-    let mut at = resume_at::<C>(last);
-    let mut count = 0;
-    loop {
-        if at > used as u64 {
-            break count;
-        }
-        let Some(head) = head_at::<B, C>(plane, k, used, at as u32, buf) else {
-            break count;
-        };
-        if is_write_of(stripe, head) {
-            count += 1;
-        }
-        at += cells_of::<C>(head);
+    // The cell of the last parity record of a stripe, if it has one. `buf` is for one cell.
+    pub fn last_parity<B: Backplane, C: Code>(
+        self,
+        plane: &mut B,
+        stripe: u32,
+        buf: &mut [u8],
+    ) -> Result<Option<u32>, BackplaneFault>
+        ensures value { result ≡ unless_fault (fault_of (to_cell self.used buf.old) (B.Backplane.view plane.old)) (Ok (last_parity (coding C.Code self.columns) (B.Backplane.view plane.old) self.used stripe)) }
+        ensures kept { B.Backplane.view plane.new ≡ B.Backplane.view plane.old }
+    {
+        plane.read_cell(self.used, buf)?;
+        self.find_parity::<B, C>(plane, stripe, buf)
     }
-}
 
-pub(crate) fn resume_at<C: Code>(last: Option<u32>) -> u64
-    ensures { (k : ℕ) → result ≡ resume_at (byte_coding k C.Code.number C.Code.rows C.Code.check C.Code.solved) last }
-{
-    match last {
-        None => 1,
-        Some(cell) => cell as u64 + (1 + C::check_rows() as u64),
+    // The same with no first read of the last cell in use, for a log that is known to be there.
+    pub fn find_parity<B: Backplane, C: Code>(
+        self,
+        plane: &mut B,
+        stripe: u32,
+        buf: &mut [u8],
+    ) -> Result<Option<u32>, BackplaneFault>
+        ensures value { fault_of (to_cell self.used buf.old) (B.Backplane.view plane.old) ≡ None → result ≡ Ok (last_parity (coding C.Code self.columns) (B.Backplane.view plane.old) self.used stripe) }
+        ensures kept { B.Backplane.view plane.new ≡ B.Backplane.view plane.old }
+    {
+        let mut records = self.records();
+        let mut last = None;
+        while let Some((at, head)) = records.next::<B, C>(plane, buf)? {
+            last = later_parity(stripe, at, head, last);
+        }
+        Ok(last)
+    }
+
+    // The pending records of a stripe whose last parity record is known.
+    fn count_after<B: Backplane, C: Code>(
+        self,
+        plane: &mut B,
+        stripe: u32,
+        last: Option<u32>,
+        buf: &mut [u8],
+    ) -> Result<u32, BackplaneFault>
+        requires readable { fault_of (to_cell self.used buf.old) (B.Backplane.view plane.old) ≡ None }
+        requires last { last ≡ last_parity (coding C.Code self.columns) (B.Backplane.view plane.old) self.used stripe }
+        ensures value { result ≡ Ok (pending (coding C.Code self.columns) stripe (walk (coding C.Code self.columns) (B.Backplane.view plane.old) self.used).log) }
+        ensures kept { B.Backplane.view plane.new ≡ B.Backplane.view plane.old }
+    {
+        let mut records = self.records_after::<C>(last);
+        let mut count = 0;
+        while let Some((_, head)) = records.next::<B, C>(plane, buf)? {
+            count += u32::from(is_write_of(stripe, head));
+        }
+        Ok(count)
     }
 }
 
@@ -115,12 +90,12 @@ fn later_parity(stripe: u32, at: u32, head: Head, last: Option<u32>) -> Option<u
     ensures { result ≡ parity_at stripe at head last }
 {
     match head {
-        Head::OfWrite(_, _) => last,
-        Head::OfParity(of) => if stripe == of { Some(at) } else { last },
+        Head::OfParity(of) if of == stripe => Some(at),
+        _ => last,
     }
 }
 
-pub(crate) fn is_write_of(stripe: u32, head: Head) -> bool
+fn is_write_of(stripe: u32, head: Head) -> bool
     ensures { result ≡ is_write_of stripe head }
 {
     match head {

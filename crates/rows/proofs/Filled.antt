@@ -7,7 +7,9 @@ use Rattle.std.proofs.lemmas.Bool.{eqb-true, eqb-false}
 use Rattle.std.proofs.lemmas.Bool.Decides.{nat_tests}
 use Rattle.codes.specs.Code.{lost_count, solvable}
 use Rattle.layout.specs.Counts.{count}
-use Rattle.model.specs.Coding.{Coding, byte_coding, across, solve_bytes, zeros}
+use Rattle.codes.specs.declared.code.Code.{Ghosts as CodeGhosts}
+use Rattle.parity_log.specs.Codes.{coding}
+use Rattle.model.specs.Coding.{Coding, across, solve_bytes, zeros}
 use Rattle.model.specs.Row.{lost_at, settled_with, raw}
 use Rattle.model.specs.Rules.{good_of, is_lost, log_of}
 use Rattle.backplane.specs.Meaning.{Bytes}
@@ -96,35 +98,35 @@ collapse : (t : Bool) (z x : List ℕ) (f : List ℕ → List ℕ) → cond t (c
 collapse true z x f = refl
 collapse false z x f = refl
 
-module _ (k number rows : ℕ) (check : ℕ → List ℕ → ℕ) (solved : ℕ → List ℕ → List Bool → List ℕ) (p : Bytes) (h : Header) (s : ℕ) where
+module _ {C : Type 0} (code : CodeGhosts C) (k : ℕ) (p : Bytes) (h : Header) (s : ℕ) where
   K : Coding (List ℕ)
-  K = byte_coding k number rows check solved
+  K = coding code k
 
-  -- what a row comes to with n columns: a as read, b with the pending shares, d solved
+  -- what a row comes to with n columns: a as read, b with the pending shares, d code.solved
   abbrev pub Fills : ℕ → Type 0
   Fills n = (a b d : List ℕ) (ls : List Bool) → n ≤ 16
       → ((c : ℕ) → c < n → column_in a c ≡ cond (flagged (lost_flags n p.live (good_of h) s) c) zeros (p.block (slot_of n s c) s))
-      → ((c : ℕ) → c < k + rows → column_in b c ≡ cond (flagged (lost_flags n p.live (good_of h) s) c) (column_in a c) (settled_with (byte_coding k number rows check solved) (log_of (byte_coding k number rows check solved) p h) s c (column_in a c)))
+      → ((c : ℕ) → c < k + code.rows → column_in b c ≡ cond (flagged (lost_flags n p.live (good_of h) s) c) (column_in a c) (settled_with (coding code k) (log_of (coding code k) p h) s c (column_in a c)))
       → ls ≡ take n (lost_flags n p.live (good_of h) s)
-      → RowSolved solved k (length ls) ls b d
-      → HoldsRow (byte_coding k number rows check solved) p h s d
+      → RowSolved code.solved k (length ls) ls b d
+      → HoldsRow (coding code k) p h s d
 
-  fills : Fills (k + rows)
+  fills : Fills (k + code.rows)
   unfolding K
   fills a b d ls few read grown e sol c low =
-      let n = k + rows in
+      let n = k + code.rows in
       let flags : List Bool = lost_flags n p.live (good_of h) s in
       let long : length ls ≡ n = ap length (e ∙ flags_of n p.live (good_of h) s few) ∙ length-map-range_with_len (lost_at n p.live (good_of h) s) 0 n in
       sol.each c (omega arith)
-      ∙ ap (λ (m : ℕ). solve_bytes solved k m (flagged ls) (column_in b) c) long
-      ∙ solve-same solved k n (flagged ls) (is_lost K p h s) (column_in b) (raw K (is_lost K p h) (log_of K p h) p.block s) c
+      ∙ ap (λ (m : ℕ). solve_bytes code.solved k m (flagged ls) (column_in b) c) long
+      ∙ solve-same code.solved k n (flagged ls) (is_lost K p h s) (column_in b) (raw K (is_lost K p h) (log_of K p h) p.block s) c
       (λ j l. ap (λ (z : List Bool). flagged z j) e ∙ part-flag n p.live (good_of h) s few j l)
       (λ j l. grown j l
       ∙ ap (λ (x : List ℕ). cond (flagged flags j) x (settled_with K (log_of K p h) s j x)) (read j l)
       ∙ collapse (flagged flags j) zeros (p.block (slot_of n s j) s) (settled_with K (log_of K p h) s j)
       ∙ ap (λ (t : Bool). cond t zeros (settled_with K (log_of K p h) s j (p.block (slot_of n s j) s))) (flag_is n p.live (good_of h) s few j l))
 
-  pub fills-by : (n : ℕ) → n ≡ k + rows → Fills n
+  pub fills-by : (n : ℕ) → n ≡ k + code.rows → Fills n
   fills-by n e = let P : ℕ → Type 0 = Fills in subst P (sym e) fills
 
 -- a flag for each place but one

@@ -1,7 +1,6 @@
 pub mod Blocks
 pub mod Sharing
 pub mod Placed
-pub mod Walked
 pub mod Grown
 pub mod Filled
 pub mod Opened

@@ -7,10 +7,13 @@ use Rattle.layout.specs.declared.shape.Shape.{Shape}
 use Rattle.layout.specs.declared.header.Header.{Header}
 use Rattle.layout.specs.Limits.{within_limits}
 use Rattle.layout.specs.Header.{header_fits, goods_fit}
+use Rattle.codes.specs.declared.code.Code.{Ghosts as CodeGhosts}
 use Rattle.model.specs.Coding.{Coding}
+use Rattle.parity_log.specs.declared.log.Log.{Log}
+use Rattle.parity_log.specs.Codes.{coding_on}
 use Rattle.model.specs.Row.{missing}
 use Rattle.model.specs.Rules.{good_of, shape_of, past_repair}
-use Rattle.rows.specs.Rows.{coding_on, is_open, open_shape, OpenFits, has_row, has_room}
+use Rattle.rows.specs.Rows.{is_open, open_shape, OpenFits, LogFits, has_row, has_room}
 
 some_is : {A : Type 0} (b : Bool) (x y : A) → cond b (Some x) None ≡ Some y → (b ≡ true) × (x ≡ y)
 some_is true x y e = (refl, cc)
@@ -20,26 +23,26 @@ none_is : {A : Type 0} (b : Bool) (x : A) → cond b (Some x) None ≡ None → 
 none_is true x e = absurd (let z : ◌≡◌ {A = ℕ} 0 1 = cc in omega arith)
 none_is false x e = refl
 
-module _ (number rows : ℕ) (check : ℕ → List ℕ → ℕ) (solved : ℕ → List ℕ → List Bool → List ℕ) (p : Bytes) (h : Header) where
+module _ {C : Type 0} (code : CodeGhosts C) (p : Bytes) (h : Header) where
   K : Coding (List ℕ)
-  K = coding_on number rows check solved p
+  K = coding_on code p
 
-  by_tests : is_open (coding_on number rows check solved p) p h ≡ true → OpenFits rows p h (shape_of (coding_on number rows check solved p) p)
+  by_tests : is_open (coding_on code p) p h ≡ true → OpenFits code.rows p h (shape_of (coding_on code p) p)
   by_tests o =
-      let k : ℕ = p.slots - rows in
-      let L : Bool = within_limits rows (shape_of (coding_on number rows check solved p) p) in
-      let H : Bool = header_fits (shape_of (coding_on number rows check solved p) p) h in
+      let k : ℕ = p.slots - code.rows in
+      let L : Bool = within_limits code.rows (shape_of (coding_on code p) p) in
+      let H : Bool = header_fits (shape_of (coding_on code p) p) h in
       let D : Bool = leb 8 p.cells && leb p.cells 4096 in
       let T : Bool = (leb 1 p.blocks && leb p.blocks 65536) && D in
       let open-parts = and_parts p.on (L && H) o in
       let parts = and_parts L H open-parts.1 in
-      let of-limits = and_parts (leb 2 k && leb k 12) (eqb p.slots (k + rows) && T) parts.0 in
+      let of-limits = and_parts (leb 2 k && leb k 12) (eqb p.slots (k + code.rows) && T) parts.0 in
       let of-columns = and_parts (leb 2 k) (leb k 12) of-limits.0 in
-      let of_slots = and_parts (eqb p.slots (k + rows)) T of-limits.1 in
+      let of_slots = and_parts (eqb p.slots (k + code.rows)) T of-limits.1 in
       let of-cells = and_parts (leb 8 p.cells) (leb p.cells 4096) (and_parts (leb 1 p.blocks && leb p.blocks 65536) D of_slots.1).1 in
-      let low : leb 2 (p.slots - rows) ≡ true = of-columns.0 in
-      let high : leb (p.slots - rows) 12 ≡ true = of-columns.1 in
-      let slots : eqb p.slots (p.slots - rows + rows) ≡ true = of_slots.0 in
+      let low : leb 2 (p.slots - code.rows) ≡ true = of-columns.0 in
+      let high : leb (p.slots - code.rows) 12 ≡ true = of-columns.1 in
+      let slots : eqb p.slots (p.slots - code.rows + code.rows) ≡ true = of_slots.0 in
       let some : leb 8 p.cells ≡ true = of-cells.0 in
       let many : leb p.cells 4096 ≡ true = of-cells.1 in
       let used : leb h.used (p.cells - 1) ≡ true = (and_parts (leb h.used (p.cells - 1)) (goods_fit p.slots p.blocks 16 h.good) parts.1).0 in
@@ -55,42 +58,42 @@ module _ (number rows : ℕ) (check : ℕ → List ℕ → ℕ) (solved : ℕ �
         used = grind (arith, nat_tests);
       }
 
-  pub open-fits : (sh : Shape) → open_shape (coding_on number rows check solved p) p h ≡ Some sh → OpenFits rows p h sh
+  pub open-fits : (sh : Shape) → open_shape (coding_on code p) p h ≡ Some sh → OpenFits code.rows p h sh
   open-fits sh e =
-      let w = some_is (is_open (coding_on number rows check solved p) p h) (shape_of (coding_on number rows check solved p) p) sh e in
-      subst (λ (z : Shape). OpenFits rows p h z) w.1 (by_tests w.0)
+      let w = some_is (is_open (coding_on code p) p h) (shape_of (coding_on code p) p) sh e in
+      subst (λ (z : Shape). OpenFits code.rows p h z) w.1 (by_tests w.0)
 
-  pub then_open : (sh : Shape) → open_shape (coding_on number rows check solved p) p h ≡ Some sh → is_open (coding_on number rows check solved p) p h ≡ true
-  then_open sh e = (some_is (is_open (coding_on number rows check solved p) p h) (shape_of (coding_on number rows check solved p) p) sh e).0
+  pub then_open : (sh : Shape) → open_shape (coding_on code p) p h ≡ Some sh → is_open (coding_on code p) p h ≡ true
+  then_open sh e = (some_is (is_open (coding_on code p) p h) (shape_of (coding_on code p) p) sh e).0
 
-  pub not-open : open_shape (coding_on number rows check solved p) p h ≡ None → is_open (coding_on number rows check solved p) p h ≡ false
-  not-open e = none_is (is_open (coding_on number rows check solved p) p h) (shape_of (coding_on number rows check solved p) p) e
+  pub not-open : open_shape (coding_on code p) p h ≡ None → is_open (coding_on code p) p h ≡ false
+  not-open e = none_is (is_open (coding_on code p) p h) (shape_of (coding_on code p) p) e
 
-  module _ (sh : Shape) (e : open_shape (coding_on number rows check solved p) p h ≡ Some sh) (s bytes cell : ℕ) where
-    f : OpenFits rows p h sh
+  module _ (sh : Shape) (e : open_shape (coding_on code p) p h ≡ Some sh) (s bytes cell : ℕ) where
+    f : OpenFits code.rows p h sh
     f = open-fits sh e
 
     -- the tests of the row in an open array
-    pub row-tests : has_row (coding_on number rows check solved p) p h s bytes cell ≡ ltb s sh.blocks && (has_room bytes cell && not (ltb rows (missing sh.slots p.live (good_of h) s)))
+    pub row-tests : has_row (coding_on code p) p h s bytes cell ≡ ltb s sh.blocks && (has_room bytes cell && not (ltb code.rows (missing sh.slots p.live (good_of h) s)))
     row-tests =
-        let w : p.slots - rows + rows ≡ sh.slots = omega (arith, f.width, f.columns) in
-        ap (λ (t : Bool). t && (ltb s p.blocks && (has_room bytes cell && not (past_repair (coding_on number rows check solved p) p h s)))) (then_open sh e)
-        ∙ ap (λ (b : ℕ). ltb s b && (has_room bytes cell && not (past_repair (coding_on number rows check solved p) p h s))) f.blocks
-        ∙ ap (λ (n : ℕ). ltb s sh.blocks && (has_room bytes cell && not (ltb rows (missing n p.live (good_of h) s)))) w
+        let w : p.slots - code.rows + code.rows ≡ sh.slots = omega (arith, f.width, f.columns) in
+        ap (λ (t : Bool). t && (ltb s p.blocks && (has_room bytes cell && not (past_repair (coding_on code p) p h s)))) (then_open sh e)
+        ∙ ap (λ (b : ℕ). ltb s b && (has_room bytes cell && not (past_repair (coding_on code p) p h s))) f.blocks
+        ∙ ap (λ (n : ℕ). ltb s sh.blocks && (has_room bytes cell && not (ltb code.rows (missing n p.live (good_of h) s)))) w
 
-    pub row_fits : ltb s sh.blocks && (has_room bytes cell && not (ltb rows (missing sh.slots p.live (good_of h) s))) ≡ true
-        → OpenFits rows p h sh × (s < p.blocks) × (missing sh.slots p.live (good_of h) s ≤ rows) × (8192 ≤ bytes) × (cell ≡ 512)
+    pub row_fits : ltb s sh.blocks && (has_room bytes cell && not (ltb code.rows (missing sh.slots p.live (good_of h) s))) ≡ true
+        → OpenFits code.rows p h sh × (s < p.blocks) × (missing sh.slots p.live (good_of h) s ≤ code.rows) × (8192 ≤ bytes) × (cell ≡ 512)
     row_fits t =
-        let N : Bool = not (ltb rows (missing sh.slots p.live (good_of h) s)) in
+        let N : Bool = not (ltb code.rows (missing sh.slots p.live (good_of h) s)) in
         let ab = and_parts (ltb s sh.blocks) (has_room bytes cell && N) t in
         let cd = and_parts (has_room bytes cell) N ab.1 in
         let ef = and_parts (leb 8192 bytes) (eqb cell 512) cd.0 in
         let a : ltb s sh.blocks ≡ true = ab.0 in
         let b : leb 8192 bytes ≡ true = ef.0 in
         let d : eqb cell 512 ≡ true = ef.1 in
-        let lost : not (ltb rows (missing sh.slots p.live (good_of h) s)) ≡ true = cd.1 in
+        let lost : not (ltb code.rows (missing sh.slots p.live (good_of h) s)) ≡ true = cd.1 in
         let same = f.blocks in
-        (f, grind (arith, nat_tests), low rows (missing sh.slots p.live (good_of h) s) lost, grind (arith, nat_tests), grind (arith, nat_tests))
+        (f, grind (arith, nat_tests), low code.rows (missing sh.slots p.live (good_of h) s) lost, grind (arith, nat_tests), grind (arith, nat_tests))
       where
         low : (m n : ℕ) → not (ltb m n) ≡ true → n ≤ m
         low m n e = go (ltb m n) refl e
@@ -98,3 +101,6 @@ module _ (number rows : ℕ) (check : ℕ → List ℕ → ℕ) (solved : ℕ �
             go : (t : Bool) → ltb m n ≡ t → not t ≡ true → n ≤ m
             go true x y = absurd (let z : ◌≡◌ {A = ℕ} 0 1 = cc in omega arith)
             go false x y = grind (arith, nat_tests)
+
+pub log-fits : (rows : ℕ) (p : Bytes) (h : Header) (sh : Shape) (log : Log) → log.columns ≡ sh.columns → log.used ≡ h.used → OpenFits rows p h sh → LogFits p log
+log-fits rows p h sh log c u f = record { power = f.power; cells = omega (arith, f.cells, u); few = omega (arith, f.high, c) }

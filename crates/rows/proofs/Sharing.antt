@@ -6,7 +6,9 @@ use Rattle.std.proofs.lemmas.List.FromFn.{length-map-range_with_len, get_or-map-
 use Rattle.std.proofs.lemmas.Bool.{eqb-true}
 use Rattle.std.proofs.lemmas.Bool.Decides.{nat_tests}
 use Rattle.codes.specs.Code.{filled, alone, share_of}
-use Rattle.model.specs.Coding.{across, zeros, check_bytes, byte_coding, share, only}
+use Rattle.codes.specs.declared.code.Code.{Ghosts as CodeGhosts}
+use Rattle.model.specs.Coding.{across, zeros, check_bytes, share, only}
+use Rattle.parity_log.specs.Codes.{coding}
 
 replicate-at : (n i : ℕ) → get_or (replicate {A = ℕ} n 0) i 0 ≡ 0
 replicate-at zero i = refl
@@ -55,17 +57,16 @@ module _ (f : ℕ → ℕ) (w k column b : ℕ) (inside : column < k) (fits : k 
       (λ j h. let lt : j < w = omega (arith, simp (length-take, length-append, length-replicate, length-map-range_with_len) at h) in
       get_or-take w (map f (range_with_len 0 k) ++ replicate w 0) j 0 lt ∙ held_at j ∙ sym (set_is j))
 
-module _ (number rows : ℕ) (check : ℕ → List ℕ → ℕ) (solved : ℕ → List ℕ → List Bool → List ℕ)
-    (fill : (r : ℕ) (xs : List ℕ) → check r xs ≡ check r (filled xs))
-    (k r column : ℕ) (x : List ℕ) (inside : column < k) (fits : k ≤ 12) (row : r < rows) where
-  share-at : (i : ℕ) → share_of check rows r column (get_or x i 0) ≡ check r (across k (only (byte_coding k number rows check solved) column x) i)
+module _ {C : Type 0} (code : CodeGhosts C) (fill : (r : ℕ) (xs : List ℕ) → code.check r xs ≡ code.check r (filled xs))
+    (k r column : ℕ) (x : List ℕ) (inside : column < k) (fits : k ≤ 12) (row : r < code.rows) where
+  share-at : (i : ℕ) → share_of code.check code.rows r column (get_or x i 0) ≡ code.check r (across k (only (coding code k) column x) i)
   share-at i =
-      let low : ltb r rows ≡ true = grind (arith, nat_tests) in
+      let low : ltb r code.rows ≡ true = grind (arith, nat_tests) in
       let few : ltb column 12 ≡ true = grind (arith, nat_tests) in
       let at : ℕ → ℕ = λ j. get_or (cond (eqb j column) x zeros) i 0 in
       let here : at column ≡ get_or x i 0 = picked column (eqb column column) (grind (arith, nat_tests)) in
       let is : filled (map at (range_with_len 0 k)) ≡ alone column (get_or x i 0) = padded at 12 k column (get_or x i 0) inside fits here (λ j ne. other j (eqb j column) refl ne) in
-      rw (low, few) (sym (fill r (map at (range_with_len 0 k)) ∙ ap (check r) is))
+      rw (low, few) (sym (fill r (map at (range_with_len 0 k)) ∙ ap (code.check r) is))
     where
       picked : (j : ℕ) (t : Bool) → t ≡ true → get_or (cond t x zeros) i 0 ≡ get_or x i 0
       picked j t e = rw e refl
@@ -74,9 +75,9 @@ module _ (number rows : ℕ) (check : ℕ → List ℕ → ℕ) (solved : ℕ �
       other j true e ne = absurd (ne (eqb-true j column e))
       other j false e ne = zeros-at i
 
-  pub share-bytes : length x ≡ 512 → share (byte_coding k number rows check solved) r column x ≡ map (share_of check rows r column) x
+  pub share-bytes : length x ≡ 512 → share (coding code k) r column x ≡ map (share_of code.check code.rows r column) x
   unfolding check_bytes
   share-bytes long =
-      let f : ℕ → ℕ = λ i. check r (across k (only (byte_coding k number rows check solved) column x) i) in
-      sym (fill_by_all f (map (share_of check rows r column) x) 512 0 (length-map x (share_of check rows r column) ∙ long)
-      (λ i h. get_or-map (share_of check rows r column) x i 0 0 (omega arith) ∙ share-at i))
+      let f : ℕ → ℕ = λ i. code.check r (across k (only (coding code k) column x) i) in
+      sym (fill_by_all f (map (share_of code.check code.rows r column) x) 512 0 (length-map x (share_of code.check code.rows r column) ∙ long)
+      (λ i h. get_or-map (share_of code.check code.rows r column) x i 0 0 (omega arith) ∙ share-at i))

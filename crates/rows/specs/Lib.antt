@@ -1,4 +1,4 @@
 pub mod Columns
 pub mod Lost
-pub mod Walking
+pub mod Shares
 pub mod Rows

@@ -5,14 +5,11 @@ use Rattle.layout.specs.declared.shape.Shape.{Shape}
 use Rattle.layout.specs.declared.header.Header.{Header}
 use Rattle.layout.specs.Limits.{within_limits}
 use Rattle.layout.specs.Header.{header_fits}
-use Rattle.model.specs.Coding.{Coding, byte_coding, width}
+use Rattle.model.specs.Coding.{Coding, width}
 use Rattle.model.specs.Row.{settled_with}
 use Rattle.model.specs.Rules.{shape_of, past_repair, row_of, log_of}
+use Rattle.parity_log.specs.declared.log.Log.{Log}
 use Rattle.rows.specs.Columns.{column_in}
-
--- the code on a backplane: the slots that hold no check hold data
-abbrev pub coding_on : ℕ → ℕ → (ℕ → List ℕ → ℕ) → (ℕ → List ℕ → List Bool → List ℕ) → Bytes → Coding (List ℕ)
-coding_on number rows check solved p = byte_coding (p.slots - rows) number rows check solved
 
 -- so many bytes hold a row, and so many a cell
 abbrev pub has_room : ℕ → ℕ → Bool
@@ -29,6 +26,12 @@ pub record OpenFits (rows : ℕ) (p : Bytes) (h : Header) (sh : Shape) : Type 0 
   pub high : sh.columns ≤ 12
   pub cells : h.used < p.cells
   pub used : h.used < 4096
+
+-- what is known of the log of an open array
+pub record LogFits (p : Bytes) (log : Log) : Type 0 where
+  pub power : p.on ≡ true
+  pub cells : log.used < p.cells
+  pub few : log.columns ≤ 12
 
 module _ (K : Coding (List ℕ)) where
   -- the power is on, the sizes are within the limits, and the header fits them

@@ -1,104 +1,93 @@
-// The pending records of a stripe: its write records after its last parity record, and their shares.
-ghost use Rattle.std.specs.Prelude.{◌≡◌, ℕ, ◌+◌, ◌*◌, ◌<◌, ◌≤◌, true, length, IfSome, if◌then◌else◌, MatchResult};
+// The shares of a stripe's pending deltas: those of its write records after its last parity record.
+ghost use Rattle.std.specs.Prelude.{◌≡◌, ℕ, ◌+◌, ◌*◌, ◌<◌, ◌≤◌, length, if◌then◌else◌, Ok};
 ghost use Rattle.layout.specs.Bytes.{sum_of};
-ghost use Rattle.layout.specs.Head.{record_cells};
-ghost use Rattle.model.specs.Coding.{byte_coding, share};
+ghost use Rattle.model.specs.Coding.{share};
+ghost use Rattle.model.specs.Log.{walk};
+ghost use Rattle.model.specs.Row.{settled_with};
+ghost use Rattle.parity_log.specs.Codes.{coding};
+ghost use Rattle.parity_log.specs.Walks.{last_parity, resume_at, rest};
 ghost use Rattle.rows.specs.Columns.{column_in, ColumnPut, flagged};
-ghost use Rattle.rows.specs.Walking.{fitting, head_at, last_step, last_parity, after, rest, column_below, shared_to, grow_step};
+ghost use Rattle.rows.specs.Rows.{LogFits};
+ghost use Rattle.rows.specs.Shares.{column_below, shared_to, grow_step};
 
 use crate::shares::add_share;
 use backplane::Backplane;
 use backplane::fault::BackplaneFault;
 use codes::Code;
-use layout::head::{Head, decode_head, record_cells};
+use layout::head::Head;
+use parity_log::log::Log;
 
-// A head, if its record ends by the last cell in use.
-fn fits_in(head: Option<Head>, rows: u32, used: u32, at: u32) -> Option<Head>
-    ensures value { result ≡ fitting rows used at head }
-    ensures fits { IfSome result (λ h. at + record_cells rows h ≤ used + 1) }
+// Adds the shares of the pending deltas of a stripe to the check columns of the row that are not to be left alone.
+pub(crate) fn add_pending<B: Backplane, C: Code>(
+    plane: &mut B,
+    log: Log,
+    stripe: u32,
+    leave: &[bool; 16],
+    row: &mut [u8],
+    cell: &mut [u8],
+) -> Result<(), BackplaneFault>
+    requires fits { LogFits (B.Backplane.view plane.old) log }
+    requires room { 512 * (log.columns + C.Code.rows) ≤ length row.old }
+    requires size { length cell.old ≡ 512 }
+    ensures done { result ≡ Ok tt }
+    ensures each { (c : ℕ) → c < log.columns + C.Code.rows → column_in row.new c ≡ (if flagged leave.now c then column_in row.old c else settled_with (coding C.Code log.columns) (walk (coding C.Code log.columns) (B.Backplane.view plane.old) log.used).log stripe c (column_in row.old c)) }
+    ensures kept { B.Backplane.view plane.new ≡ B.Backplane.view plane.old }
 {
-    match head {
-        None => None,
-        Some(h) => {
-            if at as u64 + record_cells(rows, h) <= used as u64 + 1 {
-                Some(h)
-            } else {
-                None
-            }
+    let last = log.find_parity::<B, C>(plane, stripe, cell)?;
+    add_after::<B, C>(plane, log, stripe, last, leave, row, cell)
+}
+
+// The same where the cell of the stripe's last parity record is known, if it has one.
+fn add_after<B: Backplane, C: Code>(
+    plane: &mut B,
+    log: Log,
+    stripe: u32,
+    last: Option<u32>,
+    leave: &[bool; 16],
+    row: &mut [u8],
+    cell: &mut [u8],
+) -> Result<(), BackplaneFault>
+    requires fits { LogFits (B.Backplane.view plane.old) log }
+    requires room { 512 * (log.columns + C.Code.rows) ≤ length row.old }
+    requires size { length cell.old ≡ 512 }
+    ensures done { result ≡ Ok tt }
+    ensures each { (c : ℕ) → c < log.columns + C.Code.rows → column_in row.new c ≡ rest (coding C.Code log.columns) (grow_step (coding C.Code log.columns) (B.Backplane.view plane.old) (flagged leave.now) stripe c) (B.Backplane.view plane.old) log.used (resume_at (coding C.Code log.columns) last) (column_in row.old c) }
+    ensures kept { B.Backplane.view plane.new ≡ B.Backplane.view plane.old }
+{
+    let mut records = log.records_after::<C>(last);
+    while let Some((at, head)) = records.next::<B, C>(plane, cell)? {
+        add_record::<B, C>(plane, log, at, head, stripe, leave, row, cell)?;
+    }
+    Ok(())
+}
+
+// Adds the shares of a record's delta, if it is a write record of the stripe. Its delta is read into the cell.
+fn add_record<B: Backplane, C: Code>(
+    plane: &mut B,
+    log: Log,
+    at: u32,
+    head: Head,
+    stripe: u32,
+    leave: &[bool; 16],
+    row: &mut [u8],
+    cell: &mut [u8],
+) -> Result<(), BackplaneFault>
+    requires fits { LogFits (B.Backplane.view plane.old) log }
+    requires within { at + 1 ≤ log.used }
+    requires column { column_below log.columns head }
+    requires room { 512 * (log.columns + C.Code.rows) ≤ length row.old }
+    requires size { length cell.old ≡ 512 }
+    ensures done { result ≡ Ok tt }
+    ensures each { (c : ℕ) → c < log.columns + C.Code.rows → column_in row.new c ≡ grow_step (coding C.Code log.columns) (B.Backplane.view plane.old) (flagged leave.now) stripe c at head (column_in row.old c) }
+    ensures kept { B.Backplane.view plane.new ≡ B.Backplane.view plane.old }
+{
+    if let Head::OfWrite(of, column) = head {
+        if stripe == of {
+            plane.read_cell(at + 1, cell)?;
+            add_shares::<C>(log.columns, column, cell, leave, row);
         }
     }
-}
-
-// The head of the record that begins in a cell; none where it breaks the layout or runs past the cells in use.
-fn read_head<B: Backplane, C: Code>(
-    plane: &mut B,
-    k: u8,
-    used: u32,
-    at: u32,
-    cell: &mut [u8],
-) -> Result<Option<Head>, BackplaneFault>
-    requires power { (B.Backplane.view plane.old).on ≡ true }
-    requires place { at < (B.Backplane.view plane.old).cells }
-    requires size { length cell.old ≡ 512 }
-    ensures head { MatchResult result (λ o. (o ≡ head_at (byte_coding k C.Code.number C.Code.rows C.Code.check C.Code.solved) (B.Backplane.view plane.old) used at) × IfSome o (λ h. (at + record_cells C.Code.rows h ≤ used + 1) × column_below k h)) (λ _. ⊥) }
-    ensures kept { B.Backplane.view plane.new ≡ B.Backplane.view plane.old }
-{
-    plane.read_cell(at, cell)?;
-    let head = decode_head(k, plane.blocks(), cell);
-    Ok(fits_in(head, C::check_rows() as u32, used, at))
-}
-
-fn later_parity(head: Head, stripe: u32, at: u32, last: Option<u32>) -> Option<u32>
-    ensures { result ≡ last_step stripe at head last }
-{
-    match head {
-        Head::OfWrite(_, _) => last,
-        Head::OfParity(s) => { if stripe == s { Some(at) } else { last } }
-    }
-}
-
-// The cell of the last parity record of a stripe, if it has one.
-pub(crate) fn last_parity<B: Backplane, C: Code>(
-    plane: &mut B,
-    k: u8,
-    used: u32,
-    stripe: u32,
-    cell: &mut [u8],
-) -> Result<Option<u32>, BackplaneFault>
-    requires power { (B.Backplane.view plane.old).on ≡ true }
-    requires cells { used < (B.Backplane.view plane.old).cells }
-    requires few { used < 4096 }
-    requires size { length cell.old ≡ 512 }
-    ensures last { MatchResult result (λ o. o ≡ last_parity (byte_coding k C.Code.number C.Code.rows C.Code.check C.Code.solved) (B.Backplane.view plane.old) used stripe) (λ _. ⊥) }
-    ensures within { MatchResult result (λ o. IfSome o (λ i. i < 4096)) (λ _. ⊥) }
-    ensures kept { B.Backplane.view plane.new ≡ B.Backplane.view plane.old }
-{
-    let rows = C::check_rows() as u32;
-    let mut last = None;
-    let mut at = 1;
-    while at <= used {
-        let Some(head) = read_head::<B, C>(plane, k, used, at, cell)? else {
-            break;
-        };
-        last = later_parity(head, stripe, at, last);
-        at += record_cells(rows, head) as u32;
-    }
-    Ok(last)
-}
-
-// Adds the share of a delta in check row r to a column of the row, unless that is to be left alone.
-fn add_to_column<C: Code>(k: u8, r: usize, column: u8, delta: &[u8], leave: bool, row: &mut [u8])
-    requires few { k ≤ 12 }
-    requires column { column < k }
-    requires check { r < C.Code.rows }
-    requires delta { length delta.now ≡ 512 }
-    requires room { 512 * (k + r) + 512 ≤ length row.old }
-    ensures { ColumnPut (k + r) (if leave then column_in row.old (k + r) else sum_of (column_in row.old (k + r)) (share (byte_coding k C.Code.number C.Code.rows C.Code.check C.Code.solved) r column delta.now)) row.old row.new }
-{
-    if !leave {
-        let at = 512 * (k as usize + r);
-        add_share::<C>(r, column as usize, delta, &mut row[at..at + 512]);
-    }
+    Ok(())
 }
 
 // Adds the shares of a delta to the check columns of the row that are not to be left alone.
@@ -107,84 +96,24 @@ fn add_shares<C: Code>(k: u8, column: u8, delta: &[u8], leave: &[bool; 16], row:
     requires column { column < k }
     requires delta { length delta.now ≡ 512 }
     requires room { 512 * (k + C.Code.rows) ≤ length row.old }
-    ensures each { (c : ℕ) → c < k + C.Code.rows → column_in row.new c ≡ shared_to (byte_coding k C.Code.number C.Code.rows C.Code.check C.Code.solved) (flagged leave.now) column delta.now c (column_in row.old c) }
+    ensures { (c : ℕ) → c < k + C.Code.rows → column_in row.new c ≡ shared_to (coding C.Code k) (flagged leave.now) column delta.now c (column_in row.old c) }
 {
     for r in 0..C::check_rows() {
-        add_to_column::<C>(k, r, column, delta, leave[k as usize + r], row);
-    }
-}
-
-// Adds the shares of a record's delta, if it is a write record of the stripe. Its delta is read into the cell.
-fn add_record<B: Backplane, C: Code>(
-    plane: &mut B,
-    k: u8,
-    at: u32,
-    head: Head,
-    stripe: u32,
-    leave: &[bool; 16],
-    row: &mut [u8],
-    cell: &mut [u8],
-) -> Result<(), BackplaneFault>
-    requires power { (B.Backplane.view plane.old).on ≡ true }
-    requires place { at + 1 < (B.Backplane.view plane.old).cells }
-    requires number { at < 4096 }
-    requires size { length cell.old ≡ 512 }
-    requires few { k ≤ 12 }
-    requires column { column_below k head }
-    requires room { 512 * (k + C.Code.rows) ≤ length row.old }
-    ensures each { MatchResult result (λ _. (c : ℕ) → c < k + C.Code.rows → column_in row.new c ≡ grow_step (byte_coding k C.Code.number C.Code.rows C.Code.check C.Code.solved) (B.Backplane.view plane.old) (flagged leave.now) stripe c at head (column_in row.old c)) (λ _. ⊥) }
-    ensures kept { B.Backplane.view plane.new ≡ B.Backplane.view plane.old }
-{
-    if let Head::OfWrite(s, column) = head {
-        if stripe == s {
-            plane.read_cell(at + 1, cell)?;
-            add_shares::<C>(k, column, cell, leave, row);
+        if !leave[k as usize + r] {
+            add_to_column::<C>(k, r, column, delta, row);
         }
     }
-    Ok(())
 }
 
-// Where the records begin that follow a parity record; the whole log, where there is none.
-fn first_after(last: Option<u32>, rows: u32) -> u32
-    requires few { rows ≤ 4 }
-    requires within { IfSome last (λ i. i < 4096) }
-    ensures { result ≡ after rows last }
-{
-    match last {
-        None => 1,
-        Some(cell) => cell + (1 + rows),
-    }
-}
-
-// Adds the shares of the pending deltas of a stripe, those after its last parity record, to the check columns of the row that are not to be left alone.
-pub(crate) fn add_pending<B: Backplane, C: Code>(
-    plane: &mut B,
-    k: u8,
-    used: u32,
-    stripe: u32,
-    last: Option<u32>,
-    leave: &[bool; 16],
-    row: &mut [u8],
-    cell: &mut [u8],
-) -> Result<(), BackplaneFault>
-    requires power { (B.Backplane.view plane.old).on ≡ true }
-    requires cells { used < (B.Backplane.view plane.old).cells }
-    requires number { used < 4096 }
-    requires size { length cell.old ≡ 512 }
+// Adds the share of a delta in check row r to that check column of the row.
+fn add_to_column<C: Code>(k: u8, r: usize, column: u8, delta: &[u8], row: &mut [u8])
     requires few { k ≤ 12 }
-    requires room { 512 * (k + C.Code.rows) ≤ length row.old }
-    requires within { IfSome last (λ i. i < 4096) }
-    ensures each { MatchResult result (λ _. (c : ℕ) → c < k + C.Code.rows → column_in row.new c ≡ rest (byte_coding k C.Code.number C.Code.rows C.Code.check C.Code.solved) (grow_step (byte_coding k C.Code.number C.Code.rows C.Code.check C.Code.solved) (B.Backplane.view plane.old) (flagged leave.now) stripe c) (B.Backplane.view plane.old) used (after C.Code.rows last) (column_in row.old c)) (λ _. ⊥) }
-    ensures kept { B.Backplane.view plane.new ≡ B.Backplane.view plane.old }
+    requires column { column < k }
+    requires check { r < C.Code.rows }
+    requires delta { length delta.now ≡ 512 }
+    requires room { 512 * (k + r) + 512 ≤ length row.old }
+    ensures { ColumnPut (k + r) (sum_of (column_in row.old (k + r)) (share (coding C.Code k) r column delta.now)) row.old row.new }
 {
-    let rows = C::check_rows() as u32;
-    let mut at = first_after(last, rows);
-    while at <= used {
-        let Some(head) = read_head::<B, C>(plane, k, used, at, cell)? else {
-            break;
-        };
-        add_record::<B, C>(plane, k, at, head, stripe, leave, row, cell)?;
-        at += record_cells(rows, head) as u32;
-    }
-    Ok(())
+    let at = 512 * (k as usize + r);
+    add_share::<C>(r, column as usize, delta, &mut row[at..at + 512]);
 }

@@ -1,25 +1,27 @@
 // Solving the lost columns of a row whose blocks stand side by side.
-ghost use Rattle.std.specs.Prelude.{◌≡◌, ℕ, ◌+◌, ◌*◌, ◌<◌, ◌≤◌, true, false, length, nat_le};
+ghost use Rattle.std.specs.Prelude.{◌≡◌, ℕ, ◌+◌, ◌*◌, ◌<◌, ◌≤◌, true, length, if◌then◌else◌, Ok, Err, OnOk, OnErr, nat_le};
 ghost use Rattle.codes.specs.Code.{solvable};
 ghost use Rattle.model.specs.Coding.{across};
+ghost use Rattle.rows.specs.declared.fault.RowError.TheVariants.{NoRow};
 ghost use Rattle.rows.specs.Columns.{column_in, PlacePut, RowSolved, row_solvable};
 
+use crate::fault::RowError;
 use codes::Code;
 
 // The most columns of a row.
 const COLUMNS: usize = 16;
 
-// Solves the lost columns of the row, or answers false and changes nothing: where more columns are lost than the code has checks, or the sizes do not fit.
-pub fn solve_row<C: Code>(k: usize, row: &mut [u8], lost: &[bool]) -> bool
-    ensures answer { result ≡ row_solvable C.Code.rows k lost.now (length row.old) }
-    ensures solved { result ≡ true → RowSolved C.Code.solved k (length lost.now) lost.now row.old row.new }
-    ensures refused { result ≡ false → row.new ≡ row.old }
+// Solves the lost columns of the row, or changes nothing: where more columns are lost than the code has checks, or the sizes do not fit.
+pub fn solve_row<C: Code>(k: usize, row: &mut [u8], lost: &[bool]) -> Result<(), RowError>
+    ensures answer { result ≡ (if row_solvable C.Code.rows k lost.now (length row.old) then Ok tt else Err NoRow) }
+    ensures solved { OnOk result (RowSolved C.Code.solved k (length lost.now) lost.now row.old row.new) }
+    ensures refused { OnErr result (row.new ≡ row.old) }
 {
     if !(is_solvable::<C>(k, lost) & has_room(lost.len(), row.len())) {
-        return false;
+        return Err(RowError::NoRow);
     }
     solve_places::<C>(k, row, lost);
-    true
+    Ok(())
 }
 
 fn has_room(columns: usize, bytes: usize) -> bool
@@ -72,8 +74,8 @@ fn gather(row: &[u8], i: usize, into: &mut [u8])
     requires room { 512 * length into.old ≤ length row.now }
     ensures { into.new ≡ across (length into.old) (column_in row.now) i }
 {
-    for c in 0..into.len() {
-        into[c] = row[512 * c + i];
+    for (c, byte) in into.iter_mut().enumerate() {
+        *byte = row[512 * c + i];
     }
 }
 
@@ -84,7 +86,7 @@ fn scatter(row: &mut [u8], i: usize, from: &[u8])
     requires room { 512 * length from.now ≤ length row.old }
     ensures { PlacePut (length from.now) i from.now row.old row.new }
 {
-    for c in 0..from.len() {
-        row[512 * c + i] = from[c];
+    for (c, byte) in from.iter().enumerate() {
+        row[512 * c + i] = *byte;
     }
 }

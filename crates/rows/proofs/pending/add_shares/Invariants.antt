@@ -1,11 +1,11 @@
 use Rattle.std.proofs.Common.{◌≡◌, ℕ, ◌+◌, ◌<◌, ◌≤◌, length}
-use Rattle.model.specs.Coding.{byte_coding}
+use Rattle.parity_log.specs.Codes.{coding}
 use Rattle.rows.specs.Columns.{column_in, flagged}
-use Rattle.rows.specs.Walking.{shared_to}
+use Rattle.rows.specs.Shares.{shared_to}
 use Rattle.rows.proofs.pending.add_shares.Given as goal
 
 abbrev pub invariant-loop-r : goal.invariant-loop-r
 invariant-loop-r g l =
     (length l.row ≡ length l.initial.row)
-    × ((c : ℕ) → c < l.k + l.r → column_in l.row c ≡ shared_to (byte_coding l.k g.C.Code.number g.C.Code.rows g.C.Code.check g.C.Code.solved) (flagged l.leave) l.column l.delta c (column_in l.initial.row c))
+    × ((c : ℕ) → c < l.k + l.r → column_in l.row c ≡ shared_to (coding g.C.Code l.k) (flagged l.leave) l.column l.delta c (column_in l.initial.row c))
     × ((c : ℕ) → l.k + l.r ≤ c → column_in l.row c ≡ column_in l.initial.row c)

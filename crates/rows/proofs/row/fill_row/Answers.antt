@@ -1,76 +1,59 @@
-use Rattle.std.proofs.Common.{◌≡◌, ℕ, ◌-◌, ◌*◌, ◌≤◌, Bool, cond, List, length, take, sym, ap, ◌∙◌, arith}
+use Rattle.std.proofs.Common.{◌≡◌, ℕ, ◌-◌, ◌*◌, ◌≤◌, Bool, true, cond, List, length, take, Ok, Err, Result, sym, ap, ◌∙◌, subst, arith}
+use Rattle.std.specs.Prelude.{OnOk}
 use Rattle.backplane.specs.Meaning.{Bytes}
 use Rattle.layout.specs.Stripes.{slot_of}
-use Rattle.model.specs.Coding.{byte_coding, zeros}
+use Rattle.model.specs.Coding.{zeros}
 use Rattle.model.specs.Log.{walk}
 use Rattle.model.specs.Row.{settled_with}
 use Rattle.model.specs.Rules.{good_of}
-use Rattle.rows.specs.Columns.{column_in, flagged}
+use Rattle.parity_log.specs.Codes.{coding}
+use Rattle.rows.specs.declared.fault.RowError.{RowError}
+use Rattle.rows.specs.declared.fault.RowError.TheVariants.{NoRow}
+use Rattle.rows.specs.Columns.{column_in, flagged, RowSolved}
 use Rattle.rows.specs.Lost.{lost_flags}
 use Rattle.rows.proofs.Filled.{live_of, row-solvable, fills-by}
 use Rattle.rows.proofs.row.fill_row.Goals as goal
 
-pub read_columns-requires : goal.read_columns-requires
-read_columns-requires g c =
+pub read_columns-requires-clause-live : goal.read_columns-requires-clause-live
+read_columns-requires-clause-live g c =
     let p : Bytes = g.B.Backplane.view c.args.plane.now in
-    let few : c.args.n ≤ 16 = omega (arith, c.requires.width, c.requires.high, g.met.C.Code.few.1) in
-    record {
-      power = c.requires.power;
-      slots = c.requires.slots;
-      few = few;
-      stripe = c.requires.stripe;
-      live = λ j h e. live_of c.args.n p.live (good_of c.args.header.now) c.args.stripe few j h (ap (λ (z : List Bool). flagged z j) (sym c.lost_columns-lost.ensures) ∙ e);
-      room = c.requires.room;
-    }
+    let n = c.args.shape.slots in
+    let s = c.args.stripe.number in
+    let good = good_of c.args.stripe.header.now in
+    let few : n ≤ 16 = omega (arith, c.requires.fits.width, c.requires.fits.high, g.met.C.Code.few.1) in
+    let flags = c.lost_columns-lost.ensures ∙ ap (λ (m : ℕ). lost_flags m p.live good s) c.requires.columns in
+    λ j h e. live_of n p.live good s few j h (ap (λ (z : List Bool). flagged z j) (sym flags) ∙ e)
 
-pub settle-requires : goal.settle-requires
-settle-requires g c =
-    let q : g.B.Backplane.view c.read_columns.new.plane ≡ g.B.Backplane.view c.args.plane.now = c.in_ok-read_columns.ensures.kept in
-    let n : (g.B.Backplane.view c.read_columns.new.plane).cells ≡ (g.B.Backplane.view c.args.plane.now).cells = ap (λ (p : Bytes). p.cells) q in
-    record {
-      power = ap (λ (p : Bytes). p.on) q ∙ c.requires.power;
-      cells = omega (arith, c.requires.cells);
-      used = c.requires.used;
-      few = c.requires.high;
-      room = omega (arith, c.requires.room, c.requires.width, c.read_columns.auto.row);
-      size = c.requires.size;
-    }
+-- a row that can be solved is
+solves : {P : Type 0} (t : Bool) (r : Result (Unit {0}) RowError) → r ≡ cond t (Ok tt) (Err NoRow) → t ≡ true → OnOk r P → P
+solves {P} t r e can h = let ok : r ≡ Ok tt = e ∙ ap (λ (b : Bool). cond b (Ok tt) (Err NoRow)) can in subst (λ (x : Result (Unit {0}) RowError). OnOk x P) ok h
 
-pub returns-in_err-read_columns : goal.returns-in_err-read_columns
-returns-in_err-read_columns g c = absurd c.in_err-read_columns.ensures.each
-
-pub returns-in_err-settle : goal.returns-in_err-settle
-returns-in_err-settle g c = absurd c.in_err-settle.ensures.each
-
-pub returns : goal.returns
-returns g c =
-    let k = c.args.k in
-    let n = c.args.n in
-    let s = c.args.stripe in
-    let hd = c.args.header.now in
-    let K = byte_coding k g.C.Code.number g.C.Code.rows g.C.Code.check g.C.Code.solved in
+pub returns-clause-row : goal.returns-clause-row
+returns-clause-row g c =
+    let k = c.args.shape.columns in
+    let n = c.args.shape.slots in
+    let s = c.args.stripe.number in
+    let hd = c.args.stripe.header.now in
+    let K = coding g.C.Code k in
+    let f = c.requires.fits in
     let p : Bytes = g.B.Backplane.view c.args.plane.now in
     let flags : List Bool = lost_flags n p.live (good_of hd) s in
     let lost : List Bool = c.lost_columns-lost.result in
-    let e0 : lost ≡ flags = c.lost_columns-lost.ensures in
-    let few : n ≤ 16 = omega (arith, c.requires.width, c.requires.high, g.met.C.Code.few.1) in
+    let e0 : lost ≡ flags = c.lost_columns-lost.ensures ∙ ap (λ (m : ℕ). lost_flags m p.live (good_of hd) s) c.requires.columns in
+    let few : n ≤ 16 = omega (arith, f.width, f.high, g.met.C.Code.few.1) in
     let r1 = c.in_ok-read_columns.ensures in
-    let r2 = c.in_ok-settle.ensures in
-    let q1 : g.B.Backplane.view c.read_columns.new.plane ≡ p = r1.kept in
+    let r2 = c.in_ok-add_pending.ensures in
     let a : List ℕ = c.read_columns.new.row in
-    let b : List ℕ = c.settle.new.row in
+    let b : List ℕ = c.add_pending.new.row in
     let d : List ℕ = c.solve_row.new.row in
     let ls : List Bool = take (n - 0) lost in
     let e : ls ≡ take n flags = ap (λ (m : ℕ). take m lost) (omega arith) ∙ ap (take n) e0 in
-    let room : 512 * n ≤ length b = omega (arith, c.requires.room, c.settle.auto.row, c.read_columns.auto.row) in
-    let can = row-solvable n p.live (good_of hd) s few g.C.Code.rows k (length b) ls e c.requires.low c.requires.high c.requires.width c.requires.repairable room in
-    record {
-      row = fills-by k g.C.Code.number g.C.Code.rows g.C.Code.check g.C.Code.solved p hd s n c.requires.width a b d ls few
-          (λ j l. r1.each j l ∙ ap (λ (z : List Bool). cond (flagged z j) zeros (p.block (slot_of n s j) s)) e0)
-          (λ j l. r2.each j l
-          ∙ ap (λ (q : Bytes). cond (flagged lost j) (column_in a j) (settled_with K (walk K q hd.used).log s j (column_in a j))) q1
-          ∙ ap (λ (z : List Bool). cond (flagged z j) (column_in a j) (settled_with K (walk K p hd.used).log s j (column_in a j))) e0)
-          e
-          (c.solve_row.ensures.solved (c.solve_row.ensures.answer ∙ can));
-      kept = r2.kept ∙ q1;
-    }
+    let room : 512 * n ≤ length b = omega (arith, c.requires.room, few, c.add_pending.auto.row, c.read_columns.auto.row) in
+    let can = row-solvable n p.live (good_of hd) s few g.C.Code.rows k (length b) ls e f.low f.high f.width c.requires.repairable room in
+    fills-by g.C.Code k p hd s n f.width a b d ls few
+    (λ j l. r1.each j l ∙ ap (λ (z : List Bool). cond (flagged z j) zeros (p.block (slot_of n s j) s)) e0)
+    (λ j l. r2.each j l
+    ∙ ap (λ (q : Bytes). cond (flagged lost j) (column_in a j) (settled_with K (walk K q hd.used).log s j (column_in a j))) r1.kept
+    ∙ ap (λ (z : List Bool). cond (flagged z j) (column_in a j) (settled_with K (walk K p hd.used).log s j (column_in a j))) e0)
+    e
+    (solves {P = RowSolved g.C.Code.solved k (length ls) ls b d} _ c.solve_row.result c.solve_row.ensures.answer can c.solve_row.ensures.solved)

@@ -30,5 +30,5 @@ returns g c =
     record {
       after = c.loop-i.invariant ∙ ap (λ (i : ℕ). summed_to t (map sh b) i t) n;
       whole = λ k inside fits low e f. c.loop-i.invariant ∙ summed_to-all t (map sh b) t c.loop-i.i (omega arith) (omega arith) (omega arith)
-          ∙ ap (sum_of t) (sym (share-bytes g.C.Code.number g.C.Code.rows g.C.Code.check g.C.Code.solved g.met.C.Code.fill k c.args.r c.args.column b inside fits low e));
+          ∙ ap (sum_of t) (sym (share-bytes g.C.Code g.met.C.Code.fill k c.args.r c.args.column b inside fits low e));
     }
