@@ -1,118 +1,154 @@
 // Lists of pseudo-random calls, made on the array over a fuse over a memory backplane and on the reference, and compared call by call: the answer, its
 // details and layer, the block read, every block of a live disk and every cell.
-use crate::reference::calls;
-use crate::reference::calls::{Reference, Refusal};
+use crate::reference::calls::{Layer, Reference, Refusal};
 use crate::reference::checks::{Block, ZEROS};
 use crate::reference::device::Device;
 use crate::source::Source;
 use array::array::Array;
 use backplane::Backplane;
+use backplane::sizes::Sizes;
 use codes::Code;
 use faults::fault::ArrayFault;
-use faults::told::Layer;
+use faults::told;
 use fuse::Fuse;
 use memory::Memory;
 use std::alloc::{AllocError, Global};
-
-// The sizes of an array to compare.
-#[derive(Clone, Copy)]
-pub struct Sizes {
-    pub slots: u32,
-    pub blocks: u32,
-    pub cells: u32,
-}
+use std::fmt;
 
 // What the comparison went through.
-#[derive(Clone, Copy)]
+#[derive(Clone, Copy, Default)]
 pub struct CallTally {
-    pub lists: u64,
-    pub calls: u64,
-    pub done: u64,
+    lists: u64,
+    calls: u64,
+    done: u64,
     // refusals by number
-    pub refused: [u64; 21],
+    refused: [u64; 21],
     // answers, details, layers, blocks or cells that differ from the reference
-    pub different: u64,
+    different: u64,
 }
 
 impl CallTally {
-    pub(crate) fn new() -> CallTally {
-        CallTally {
-            lists: 0,
-            calls: 0,
-            done: 0,
-            refused: [0; 21],
-            different: 0,
-        }
-    }
-
-    fn count(&mut self, number: u32) {
+    fn count(&mut self, said: &Said) {
         self.calls = self.calls.saturating_add(1);
-        if number == 0 {
-            self.done = self.done.saturating_add(1);
-        } else if number < 21 {
-            let n = number as usize;
-            self.refused[n] = self.refused[n].saturating_add(1);
+        match *said {
+            Said::Refused { number, .. } => {
+                if let Some(times) = self.refused.get_mut(number as usize) {
+                    *times = times.saturating_add(1);
+                }
+            }
+            _ => self.done = self.done.saturating_add(1),
         }
     }
 
     fn differ(&mut self, differs: bool) {
-        if differs {
-            self.different = self.different.saturating_add(1);
+        self.different = self.different.saturating_add(u64::from(differs));
+    }
+}
+
+impl fmt::Display for CallTally {
+    fn fmt<W: fmt::Write>(&self, f: &mut fmt::Formatter<W>) -> fmt::Result {
+        let CallTally {
+            lists,
+            calls,
+            done,
+            refused,
+            different,
+        } = *self;
+        writeln!(
+            f,
+            "  lists of calls: {lists}, calls in all: {calls}, done: {done}"
+        )?;
+        for (n, times) in refused.iter().enumerate() {
+            if *times > 0 {
+                writeln!(f, "  refused by {n}: {times}")?;
+            }
+        }
+        write!(
+            f,
+            "  answers, details, layers, blocks, cells or work areas that differ from the reference: {different}"
+        )
+    }
+}
+
+// What a call said.
+#[derive(Clone, Copy, PartialEq)]
+enum Said {
+    Done,
+    Number(u64),
+    Read(Block),
+    // the number and the two details
+    Refused {
+        number: u32,
+        a: u64,
+        b: u64,
+        layer: Layer,
+    },
+}
+
+impl From<()> for Said {
+    fn from(_done: ()) -> Said {
+        Said::Done
+    }
+}
+
+impl From<u32> for Said {
+    fn from(n: u32) -> Said {
+        Said::Number(u64::from(n))
+    }
+}
+
+impl From<usize> for Said {
+    fn from(n: usize) -> Said {
+        Said::Number(n as u64)
+    }
+}
+
+impl From<Block> for Said {
+    fn from(x: Block) -> Said {
+        Said::Read(x)
+    }
+}
+
+impl From<ArrayFault> for Said {
+    fn from(e: ArrayFault) -> Said {
+        let (a, b) = e.details();
+        Said::Refused {
+            number: e.number(),
+            a: u64::from(a),
+            b: u64::from(b),
+            layer: e.layer().into(),
         }
     }
 }
 
-// What a call said, in numbers: 0 or the refusal's number, its details and layer, and the number or the block that was answered.
-#[derive(Clone, Copy, PartialEq)]
-struct Said {
-    number: u32,
-    a: u64,
-    b: u64,
-    layer: u32,
-    value: u64,
-    block: Block,
-}
-
-fn done(value: u64, block: Block) -> Said {
-    Said {
-        number: 0,
-        a: 0,
-        b: 0,
-        layer: 0,
-        value,
-        block,
+impl From<Refusal> for Said {
+    fn from(e: Refusal) -> Said {
+        let (a, b) = e.details();
+        Said::Refused {
+            number: e.number(),
+            a: a as u64,
+            b: b as u64,
+            layer: e.layer(),
+        }
     }
 }
 
-fn layer_number(layer: Layer) -> u32 {
-    match layer {
-        Layer::Backplane => 1,
-        Layer::Log => 2,
-        Layer::Stripe => 3,
-        Layer::Array => 4,
+impl From<told::Layer> for Layer {
+    fn from(layer: told::Layer) -> Layer {
+        match layer {
+            told::Layer::Backplane => Layer::Backplane,
+            told::Layer::Log => Layer::Log,
+            told::Layer::Stripe => Layer::Stripe,
+            told::Layer::Array => Layer::Array,
+        }
     }
 }
 
-fn said_by_array(e: ArrayFault) -> Said {
-    let (a, b) = e.details();
-    Said {
-        number: e.number(),
-        a: u64::from(a),
-        b: u64::from(b),
-        layer: layer_number(e.layer()),
-        value: 0,
-        block: ZEROS,
-    }
-}
-
-fn said_by_reference(e: Refusal) -> Said {
-    Said {
-        number: e.number,
-        a: e.a as u64,
-        b: e.b as u64,
-        layer: calls::layer_of(e.number),
-        value: 0,
-        block: ZEROS,
+// What an answer or a refusal says, of the array or of the reference.
+fn told_as<T: Into<Said>, E: Into<Said>>(r: Result<T, E>) -> Said {
+    match r {
+        Ok(x) => x.into(),
+        Err(e) => e.into(),
     }
 }
 
@@ -132,10 +168,9 @@ enum Deed {
 
 // A pseudo-random call: mostly one that makes sense, now and then one just outside.
 fn next_deed(source: &mut Source, sizes: Sizes, k: u32) -> Deed {
-    let blocks = (sizes.blocks as usize).saturating_mul(k as usize);
-    let block = (source.below(blocks.saturating_add(1)) % 65536) as u32;
-    let stripe = (source.below((sizes.blocks as usize).saturating_add(1)) % 65536) as u32;
-    let slot = (source.below((sizes.slots as usize).saturating_add(1)) % 65536) as u32;
+    let block = source.below(sizes.blocks.saturating_mul(k).saturating_add(1));
+    let stripe = source.below(sizes.blocks.saturating_add(1));
+    let slot = source.below(sizes.slots.saturating_add(1));
     match source.below(40) {
         0..=11 => Deed::Write(block, source.byte(), 512),
         12..=18 => Deed::Read(block, 512),
@@ -162,225 +197,146 @@ fn filled(seed: u8) -> [u8; 513] {
     x
 }
 
-fn unit_said(r: Result<(), ArrayFault>) -> Said {
-    match r {
-        Ok(()) => done(0, ZEROS),
-        Err(e) => said_by_array(e),
-    }
-}
-
-fn number_said(r: Result<u32, ArrayFault>) -> Said {
-    match r {
-        Ok(n) => done(u64::from(n), ZEROS),
-        Err(e) => said_by_array(e),
-    }
-}
-
 fn read_array<B: Backplane, C: Code>(
     array: &mut Array<B, C>,
     block: u32,
     length: usize,
     work: &mut [u8],
-) -> Said {
+) -> Result<Block, ArrayFault> {
     let mut into = [0u8; 513];
-    let length = length.min(513);
-    match reading::read::read(array, block, &mut into[0..length], work) {
-        Ok(()) => done(0, front(&into)),
-        Err(e) => said_by_array(e),
-    }
-}
-
-// The first 512 bytes.
-fn front(x: &[u8; 513]) -> Block {
-    let mut out = ZEROS;
-    for i in 0..512usize {
-        out[i] = x[i];
-    }
-    out
+    reading::read::read(array, block, &mut into[..length.min(513)], work)?;
+    Ok(into.first_chunk().copied().unwrap_or(ZEROS))
 }
 
 fn on_array<B: Backplane, C: Code>(array: &mut Array<B, C>, deed: Deed, work: &mut [u8]) -> Said {
     match deed {
-        Deed::Write(block, seed, length) => unit_said(writing::write::write(
+        Deed::Write(block, seed, length) => told_as(writing::write::write(
             array,
             block,
-            &filled(seed)[0..length.min(513)],
+            &filled(seed)[..length.min(513)],
             work,
         )),
-        Deed::Read(block, length) => read_array(array, block, length, work),
-        Deed::Fold(stripe) => number_said(folding::fold::fold(array, stripe, work)),
-        Deed::Clear => unit_said(array.clear(work)),
-        Deed::Pull(slot) => unit_said(array.pull(slot)),
-        Deed::Fit(slot) => unit_said(array.fit(slot, work)),
-        Deed::Rebuild(slot) => number_said(reading::rebuild::rebuild(array, slot, work)),
-        Deed::Start => unit_said(starting::start::start(array, work)),
-        Deed::Format => unit_said(array.format(work)),
-    }
-}
-
-fn unit_told(r: Result<(), Refusal>) -> Said {
-    match r {
-        Ok(()) => done(0, ZEROS),
-        Err(e) => said_by_reference(e),
-    }
-}
-
-fn number_told(r: Result<usize, Refusal>) -> Said {
-    match r {
-        Ok(n) => done(n as u64, ZEROS),
-        Err(e) => said_by_reference(e),
-    }
-}
-
-fn block_told(r: Result<Block, Refusal>) -> Said {
-    match r {
-        Ok(block) => done(0, block),
-        Err(e) => said_by_reference(e),
+        Deed::Read(block, length) => told_as(read_array(array, block, length, work)),
+        Deed::Fold(stripe) => told_as(folding::fold::fold(array, stripe, work)),
+        Deed::Clear => told_as(array.clear(work)),
+        Deed::Pull(slot) => told_as(array.pull(slot)),
+        Deed::Fit(slot) => told_as(array.fit(slot, work)),
+        Deed::Rebuild(slot) => told_as(reading::rebuild::rebuild(array, slot, work)),
+        Deed::Start => told_as(starting::start::start(array, work)),
+        Deed::Format => told_as(array.format(work)),
     }
 }
 
 fn on_reference(reference: &mut Reference, deed: Deed, work: usize) -> Said {
     match deed {
-        Deed::Write(block, seed, length) => unit_told(reference.write(
+        Deed::Write(block, seed, length) => told_as(reference.write(
             work,
             block as usize,
-            &filled(seed)[0..length.min(513)],
+            &filled(seed)[..length.min(513)],
         )),
-        Deed::Read(block, length) => block_told(reference.read(work, block as usize, length)),
-        Deed::Fold(stripe) => number_told(reference.fold(work, stripe as usize)),
-        Deed::Clear => unit_told(reference.clear(work)),
-        Deed::Pull(slot) => unit_told(reference.pull(slot as usize)),
-        Deed::Fit(slot) => unit_told(reference.fit(work, slot as usize)),
-        Deed::Rebuild(slot) => number_told(reference.rebuild(work, slot as usize)),
-        Deed::Start => unit_told(reference.start(work)),
-        Deed::Format => unit_told(reference.format(work)),
+        Deed::Read(block, length) => told_as(reference.read(work, block as usize, length)),
+        Deed::Fold(stripe) => told_as(reference.fold(work, stripe as usize)),
+        Deed::Clear => told_as(reference.clear(work)),
+        Deed::Pull(slot) => told_as(reference.pull(slot as usize)),
+        Deed::Fit(slot) => told_as(reference.fit(work, slot as usize)),
+        Deed::Rebuild(slot) => told_as(reference.rebuild(work, slot as usize)),
+        Deed::Start => told_as(reference.start(work)),
+        Deed::Format => told_as(reference.format(work)),
     }
 }
 
-// Whether the bytes from a place on are these.
-fn stands_at(bytes: &[u8], at: usize, x: &Block) -> bool {
-    match bytes.get(at..at.saturating_add(512)) {
-        Some(part) => part == x.as_slice(),
-        None => false,
-    }
+// Whether the bytes are these blocks, one after the other.
+fn same_blocks(bytes: &[u8], blocks: &[Block]) -> bool {
+    bytes.len() / 512 == blocks.len()
+        && bytes
+            .chunks(512)
+            .zip(blocks.iter())
+            .all(|(part, x)| part == x.as_slice())
 }
 
 // Whether the lent memory holds what the reference does, but for the disks that are out.
 fn same_bytes(bytes: &[u8], device: &Device) -> bool {
-    let mut at = 0usize;
-    for d in 0..device.slots {
-        for b in 0..device.blocks {
-            if device.is_live(d) && !stands_at(bytes, at, &device.block(d, b)) {
-                return false;
-            }
-            at = at.saturating_add(512);
-        }
-    }
-    for c in 0..device.cells {
-        if !stands_at(bytes, at, &device.cell(c)) {
-            return false;
-        }
-        at = at.saturating_add(512);
-    }
-    true
-}
-
-fn all_zero(work: &[u8]) -> bool {
-    for b in work.iter() {
-        if *b != 0 {
-            return false;
-        }
-    }
-    true
-}
-
-// The array under comparison.
-type Subject<'a, C> = Array<Fuse<Memory<'a>>, C>;
-
-// Sets the fuse of both; more than 512 new bytes are refused by both.
-fn set_fuse<C: Code>(
-    source: &mut Source,
-    array: &mut Subject<'_, C>,
-    reference: &mut Reference,
-    tally: &mut CallTally,
-) {
-    let passes = (source.below(14) % 65536) as u32;
-    let fresh = match source.below(6) {
-        0 => 0,
-        1 => 1,
-        2 => 511,
-        3 => 512,
-        4 => 513,
-        _ => 256,
+    let disk = device.blocks.saturating_mul(512);
+    let Some((disks, log)) = bytes.split_at_checked(disk.saturating_mul(device.slots())) else {
+        return false;
     };
-    let taken = array.backplane.set(passes, fresh).is_ok();
-    tally.differ(taken != reference.device.set_fuse(passes, fresh));
+    same_blocks(log, device.log.as_slice())
+        && disks.chunks(disk.max(1)).zip(device.disks.iter()).all(|(part, x)| !x.live
+            || same_blocks(part, x.blocks.as_slice()))
 }
 
-// One call on both, compared with all that it left.
-fn step<C: Code>(
-    array: &mut Subject<'_, C>,
-    reference: &mut Reference,
-    deed: Deed,
-    work: &mut [u8],
-    tally: &mut CallTally,
-) {
-    let said = on_array(array, deed, work);
-    let told = on_reference(reference, deed, work.len());
-    tally.count(said.number);
-    tally.differ(said != told);
-    tally.differ(array.started() != reference.started);
-    tally.differ(!same_bytes(array.backplane.below().bytes(), &reference.device));
-    tally.differ(work.len() >= 10240 && !all_zero(work));
+// The array and the reference, side by side, and what they went through.
+#[derive(Drop)]
+struct Pair<'a, C: Code + Drop> {
+    array: Array<Fuse<Memory<'a>>, C>,
+    reference: Reference,
+    tally: CallTally,
 }
 
-// The same with a work area that is a byte too short: it is refused, and the work area is left as it was.
-fn step_short<C: Code>(
-    array: &mut Subject<'_, C>,
-    reference: &mut Reference,
-    deed: Deed,
-    tally: &mut CallTally,
-) {
-    let mut short = [7u8; 10239];
-    let said = on_array(array, deed, &mut short);
-    let told = on_reference(reference, deed, 10239);
-    tally.count(said.number);
-    tally.differ(said != told);
-    tally.differ(short != [7u8; 10239]);
-    tally.differ(!same_bytes(array.backplane.below().bytes(), &reference.device));
-}
-
-// Changes one byte of a cell of both, past array and fuse, as a fault of the hardware might. Only where no fuse is set, so that both store it.
-fn damage<C: Code>(source: &mut Source, array: &mut Subject<'_, C>, reference: &mut Reference) {
-    if array.backplane.setting().is_some() || !reference.device.on {
-        return;
+impl<C: Code + Drop> Pair<'_, C> {
+    // Sets the fuse of both; more than 512 new bytes are refused by both.
+    fn set_fuse(&mut self, source: &mut Source) {
+        let passes = source.below(14);
+        let fresh = source.pick(&[0, 1, 511, 512, 513, 256]);
+        let taken = self.array.backplane.set(passes, fresh).is_ok();
+        let expected = self.reference.device.set_fuse(passes, fresh);
+        self.tally.differ(taken != expected);
     }
-    let cell = source.below(reference.device.cells.min(12));
-    let mut x = reference.device.cell(cell);
-    let place = match source.below(3) {
-        0 => source.below(8),
-        1 => source.below(24),
-        _ => source.below(512),
-    };
-    if place < 512 {
-        x[place] = source.byte() % 4;
+
+    // One call on both, compared with all that it left.
+    fn make(&mut self, deed: Deed, work: &mut [u8]) {
+        let said = on_array(&mut self.array, deed, work);
+        let told = on_reference(&mut self.reference, deed, work.len());
+        let bytes = self.array.backplane.below().bytes();
+        let same = same_bytes(bytes, &self.reference.device);
+        self.tally.count(&said);
+        self.tally.differ(said != told);
+        self.tally
+            .differ(self.array.started() != self.reference.started);
+        self.tally.differ(!same);
     }
-    if array
-        .backplane
-        .store_cell((cell % 65536) as u32, &x)
-        .is_ok()
-    {
-        reference.device.set_cell(cell, x);
+
+    fn step(&mut self, deed: Deed, work: &mut [u8; 10240]) {
+        self.make(deed, work);
+        self.tally.differ(work.iter().any(|b| *b != 0));
+    }
+
+    // The same with a work area that is a byte too short: it is refused, and the work area is left as it was.
+    fn step_short(&mut self, deed: Deed) {
+        let mut short = [7u8; 10239];
+        self.make(deed, &mut short);
+        self.tally.differ(short.iter().any(|b| *b != 7));
+    }
+
+    // Changes one byte of a cell of both, past array and fuse, as a fault of the hardware might. Only where no fuse is set, so that both store it.
+    fn damage(&mut self, source: &mut Source) {
+        if self.array.backplane.setting().is_some() || !self.reference.device.on {
+            return;
+        }
+        let cell = source.below(self.array.backplane.cells().min(12));
+        let mut x = self.reference.device.cell(cell as usize);
+        let reach = match source.below(3) {
+            0 => 8,
+            1 => 24,
+            _ => 512,
+        };
+        let place = source.below(reach) as usize;
+        if let Some(b) = x.get_mut(place) {
+            *b = source.byte() % 4;
+        }
+        if self.array.backplane.store_cell(cell, &x).is_ok() {
+            self.reference.device.set_cell(cell as usize, x);
+        }
     }
 }
 
 // How a list of calls goes.
 #[derive(Clone, Copy)]
-pub struct Plan {
-    pub seed: u64,
-    pub length: usize,
+struct Plan {
+    seed: u64,
+    length: usize,
     // whether cells are damaged now and then
-    pub damaged: bool,
+    damaged: bool,
 }
 
 fn compare_list<C: Code + Drop>(
@@ -388,47 +344,42 @@ fn compare_list<C: Code + Drop>(
     code: C,
     sizes: Sizes,
     plan: Plan,
-    tally: &mut CallTally,
-) -> Result<(), AllocError> {
-    let k = sizes.slots.saturating_sub((C::check_rows() % 65536) as u32);
-    let places = (sizes.slots as usize)
-        .saturating_mul(sizes.blocks as usize)
-        .saturating_add(sizes.cells as usize);
+    tally: CallTally,
+) -> Result<CallTally, AllocError> {
+    let Sizes {
+        slots,
+        blocks,
+        cells,
+    } = sizes;
+    let k = slots.saturating_sub((C::check_rows() % 65536) as u32);
+    let places = slots.saturating_mul(blocks).saturating_add(cells) as usize;
     let mut bytes = vec![in heap; 0u8; places.saturating_mul(512)]?;
-    let mut work = vec![in heap; 7u8; 10240]?;
-    let device = Device::new(
-        heap,
-        sizes.slots as usize,
-        sizes.blocks as usize,
-        sizes.cells as usize,
-    )?;
-    let mut reference = Reference::new(device, C::check_rows());
-    let memory = Memory::new(bytes.as_mut_slice(), sizes.slots, sizes.blocks, sizes.cells);
-    let mut array = Array::new(Fuse::new(memory), code);
-    let mut source = Source::new(plan.seed);
-    tally.lists = tally.lists.saturating_add(1);
-    step(
-        &mut array,
-        &mut reference,
-        Deed::Format,
-        work.as_mut_slice(),
+    let mut work = [7u8; 10240];
+    let device = Device::new(heap, slots as usize, blocks as usize, cells as usize)?;
+    let memory = Memory::new(bytes.as_mut_slice(), slots, blocks, cells);
+    let mut both = Pair {
+        array: Array::new(Fuse::new(memory), code),
+        reference: Reference::new(device, C::check_rows()),
         tally,
-    );
+    };
+    let mut source = Source::new(plan.seed);
+    both.tally.lists = both.tally.lists.saturating_add(1);
+    both.step(Deed::Format, &mut work);
     for _ in 0..plan.length {
         if source.below(7) == 0 {
-            set_fuse(&mut source, &mut array, &mut reference, tally);
+            both.set_fuse(&mut source);
         }
         if plan.damaged && source.below(9) == 0 {
-            damage(&mut source, &mut array, &mut reference);
+            both.damage(&mut source);
         }
         let deed = next_deed(&mut source, sizes, k);
         if source.below(25) == 0 {
-            step_short(&mut array, &mut reference, deed, tally);
+            both.step_short(deed);
         } else {
-            step(&mut array, &mut reference, deed, work.as_mut_slice(), tally);
+            both.step(deed, &mut work);
         }
     }
-    Ok(())
+    Ok(both.tally)
 }
 
 // Lists of calls on an array of these sizes: two of three as they come, one with damaged cells.
@@ -437,20 +388,16 @@ pub(crate) fn compare_lists<C: Code + Drop + Copy>(
     code: C,
     sizes: Sizes,
     lists: u64,
-    tally: &mut CallTally,
-) -> Result<(), AllocError> {
+    before: CallTally,
+) -> Result<CallTally, AllocError> {
+    let mut tally = before;
     for seed in 0..lists {
-        compare_list(
-            heap,
-            code,
-            sizes,
-            Plan {
-                seed,
-                length: 120,
-                damaged: seed % 3 == 2,
-            },
-            tally,
-        )?;
+        let plan = Plan {
+            seed,
+            length: 120,
+            damaged: seed % 3 == 2,
+        };
+        tally = compare_list(heap, code, sizes, plan, tally)?;
     }
-    Ok(())
+    Ok(tally)
 }

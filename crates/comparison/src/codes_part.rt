@@ -1,26 +1,25 @@
 // Checks, shares and solved rows of each code, compared with the reference.
 use crate::reference::checks;
-use crate::reference::checks::{Block, ZEROS};
+use crate::reference::checks::Block;
 use crate::source::Source;
 use codes::Code;
+use std::fmt;
 
-#[derive(Clone, Copy)]
+#[derive(Clone, Copy, Default)]
 pub struct CodeTally {
     // check bytes and shares compared
-    pub bytes: u64,
+    bytes: u64,
     // rows that were solved, and compared whole
-    pub solved: u64,
+    solved: u64,
     // calls that had to be refused
-    pub refused: u64,
+    refused: u64,
     // answers that differ from the reference
-    pub different: u64,
+    different: u64,
 }
 
 impl CodeTally {
     fn differ(&mut self, differs: bool) {
-        if differs {
-            self.different = self.different.saturating_add(1);
-        }
+        self.different = self.different.saturating_add(u64::from(differs));
     }
 
     fn count_byte(&mut self, differs: bool) {
@@ -39,59 +38,44 @@ impl CodeTally {
     }
 }
 
-fn random_block(source: &mut Source) -> Block {
-    let mut x = ZEROS;
-    for b in x.iter_mut() {
-        *b = source.byte();
+impl fmt::Display for CodeTally {
+    fn fmt<W: fmt::Write>(&self, f: &mut fmt::Formatter<W>) -> fmt::Result {
+        let CodeTally {
+            bytes,
+            solved,
+            refused,
+            different,
+        } = *self;
+        writeln!(f, "  check bytes and shares compared: {bytes}")?;
+        writeln!(f, "  rows solved and compared: {solved}")?;
+        writeln!(f, "  calls that had to be refused: {refused}")?;
+        write!(f, "  different from the reference: {different}")
     }
-    x
 }
 
 fn random_row(source: &mut Source) -> [Block; 16] {
-    let mut row = [ZEROS; 16];
-    for c in 0..16usize {
-        let x = random_block(source);
-        row[c] = x;
-    }
-    row
+    std::array::from_fn(|_| source.bytes())
 }
 
 // The flags of the lost places: those whose bit is set.
-fn flags(mask: u32) -> [bool; 20] {
-    let mut lost = [false; 20];
-    for i in 0..20usize {
-        lost[i] = (mask >> (i as u32)) & 1 == 1;
-    }
-    lost
-}
-
-// How many bits are set.
-fn size(mask: u32) -> usize {
-    let mut n = 0usize;
-    for i in 0..20u32 {
-        if (mask >> i) & 1 == 1 {
-            n = n.saturating_add(1);
-        }
-    }
-    n
+fn flags<const N: usize>(mask: u32) -> [bool; N] {
+    std::array::from_fn(|i| i < 32 && (mask >> (i as u32)) & 1 == 1)
 }
 
 // The bytes at place `i` of the blocks of a row.
 fn slice_at(row: &[Block; 16], i: usize) -> [u8; 16] {
     let mut bytes = [0u8; 16];
-    for c in 0..16usize {
-        bytes[c] = row[c].get(i).copied().unwrap_or(0);
+    for (b, x) in bytes.iter_mut().zip(row.iter()) {
+        *b = x.get(i).copied().unwrap_or(0);
     }
     bytes
 }
 
-// The row with its first `n` bytes solved, unless that is refused.
-fn solved_row<C: Code>(k: usize, n: usize, row: [u8; 16], lost: &[bool]) -> Option<[u8; 16]> {
-    let mut bytes = row;
-    if n <= 16 && C::solve(k, &mut bytes[0..n], lost) {
-        Some(bytes)
-    } else {
-        None
+// Whether the first `n` bytes of a row are solved.
+fn solves<C: Code>(k: usize, n: usize, row: &mut [u8], lost: &[bool]) -> bool {
+    match row.get_mut(..n) {
+        Some(bytes) => C::solve(k, bytes, lost),
+        None => false,
     }
 }
 
@@ -104,29 +88,23 @@ fn solve_places<C: Code>(
     tally: &mut CodeTally,
 ) {
     let row = random_row(source);
-    let lost = flags(mask);
+    let lost = flags::<20>(mask);
     let mut expected = row;
     checks::fill_lost(&mut expected, &lost, k, n.saturating_sub(k));
     for i in 0..512usize {
-        let wanted = slice_at(&expected, i);
-        let differs = match solved_row::<C>(k, n, slice_at(&row, i), &lost) {
-            Some(bytes) => bytes != wanted,
-            None => true,
-        };
-        tally.count_solved(differs);
+        let mut bytes = slice_at(&row, i);
+        let solved = solves::<C>(k, n, &mut bytes, &lost);
+        tally.count_solved(!solved || bytes != slice_at(&expected, i));
     }
 }
 
 // A call that has to be refused and to leave the row as it was.
 fn refuse<C: Code>(source: &mut Source, k: usize, n: usize, mask: u32, tally: &mut CodeTally) {
-    let mut bytes = [0u8; 20];
-    for b in bytes.iter_mut() {
-        *b = source.byte();
-    }
+    let mut bytes: [u8; 20] = source.bytes();
     let before = bytes;
     if n <= 20 {
-        let answer = C::solve(k, &mut bytes[0..n], &flags(mask));
-        tally.count_refused(answer || bytes != before);
+        let solved = solves::<C>(k, n, &mut bytes, &flags::<20>(mask));
+        tally.count_refused(solved || bytes != before);
     }
 }
 
@@ -134,11 +112,8 @@ fn refuse<C: Code>(source: &mut Source, k: usize, n: usize, mask: u32, tally: &m
 fn every_set<C: Code>(source: &mut Source, k: usize, tally: &mut CodeTally) {
     let m = C::check_rows();
     let n = k.saturating_add(m);
-    for mask in 0..65536u32 {
-        if n < 16 && (mask >> (n as u32)) != 0 {
-            break;
-        }
-        if size(mask) <= m {
+    for mask in 0..1u32 << n.min(16) {
+        if mask.count_ones() as usize <= m {
             solve_places::<C>(source, k, n, mask, tally);
         } else {
             refuse::<C>(source, k, n, mask, tally);
@@ -157,47 +132,50 @@ fn every_refusal<C: Code>(source: &mut Source, tally: &mut CodeTally) {
         refuse::<C>(source, k, n.saturating_add(1), 0, tally);
         refuse::<C>(source, k, n.saturating_sub(1), 0, tally);
         if n < 20 {
-            refuse::<C>(source, k, n, 1 << (n as u32), tally);
+            refuse::<C>(source, k, n, 1 << n, tally);
         }
     }
 }
 
-// The checks of a data list and the shares of a byte, out of range too.
-fn check_bytes<C: Code>(source: &mut Source, tally: &mut CodeTally) {
-    let mut list = [0u8; 14];
-    for b in list.iter_mut() {
-        *b = source.byte();
+// The share of a byte by the reference: none past the code's rows and the twelfth column.
+fn wanted_share<C: Code>(r: usize, j: usize, b: u8) -> u8 {
+    if r < C::check_rows() && j < 12 {
+        checks::times(checks::weight(r, j), b)
+    } else {
+        0
     }
-    let m = C::check_rows();
+}
+
+// The sum of the shares of a list.
+fn wanted_check<C: Code>(r: usize, list: &[u8]) -> u8 {
+    let mut sum = 0u8;
+    for (j, b) in list.iter().enumerate() {
+        sum ^= wanted_share::<C>(r, j, *b);
+    }
+    sum
+}
+
+// The checks of a data list and the shares of a byte in a row, out of range too.
+fn check_row<C: Code>(r: usize, list: &[u8; 14], tally: &mut CodeTally) {
+    for length in 0..15usize {
+        let part = &list[..length];
+        tally.count_byte(C::check_byte(r, part) != wanted_check::<C>(r, part));
+    }
+    for (j, b) in list.iter().enumerate() {
+        tally.count_byte(C::share(r, j, *b) != wanted_share::<C>(r, j, *b));
+    }
+}
+
+fn check_bytes<C: Code>(source: &mut Source, tally: &mut CodeTally) {
+    let list = source.bytes();
     for r in 0..5usize {
-        for length in 0..15usize {
-            let mut wanted = 0u8;
-            for j in 0..12usize {
-                if j < length && r < m {
-                    wanted ^= checks::times(checks::weight(r, j), list[j]);
-                }
-            }
-            tally.count_byte(C::check_byte(r, &list[0..length.min(14)]) != wanted);
-        }
-        for j in 0..14usize {
-            let wanted = if r < m && j < 12 {
-                checks::times(checks::weight(r, j), list[j])
-            } else {
-                0
-            };
-            tally.count_byte(C::share(r, j, list[j]) != wanted);
-        }
+        check_row::<C>(r, &list, tally);
     }
 }
 
 pub(crate) fn compare_code<C: Code>(seed: u64) -> CodeTally {
     let mut source = Source::new(seed);
-    let mut tally = CodeTally {
-        bytes: 0,
-        solved: 0,
-        refused: 0,
-        different: 0,
-    };
+    let mut tally = CodeTally::default();
     for _ in 0..200 {
         check_bytes::<C>(&mut source, &mut tally);
     }

@@ -11,7 +11,7 @@ impl Source {
         }
     }
 
-    pub(crate) fn next(&mut self) -> u64 {
+    fn next(&mut self) -> u64 {
         let mut x = self.state;
         x ^= x.wrapping_mul(8192);
         x ^= x >> 7;
@@ -21,12 +21,29 @@ impl Source {
     }
 
     // A number below `n`, or 0.
-    pub(crate) fn below(&mut self, n: usize) -> usize {
-        let x = (self.next() >> 11) as usize;
-        if n == 0 { 0 } else { x % n }
+    pub(crate) fn below(&mut self, n: u32) -> u32 {
+        let x = self.next() >> 11;
+        if n == 0 {
+            0
+        } else {
+            ((x % u64::from(n)) & 0xffff_ffff) as u32
+        }
+    }
+
+    // One of these.
+    pub(crate) fn pick(&mut self, from: &[u32; 6]) -> u32 {
+        from.get(self.below(6) as usize).copied().unwrap_or(0)
     }
 
     pub(crate) fn byte(&mut self) -> u8 {
         ((self.next() >> 24) & 0xff) as u8
+    }
+
+    pub(crate) fn bytes<const N: usize>(&mut self) -> [u8; N] {
+        let mut bytes = [0u8; N];
+        for b in bytes.iter_mut() {
+            *b = self.byte();
+        }
+        bytes
     }
 }

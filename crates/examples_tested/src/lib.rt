@@ -1,27 +1,37 @@
 // Worked examples, run: the numbers are worked out by hand.
 #![tactic(auto)]
 
-use faults::fault::ArrayFault;
-
-// 0 for a call that is done, else the number and the first detail of its refusal.
-#[cfg(test)]
-fn told(r: Result<(), ArrayFault>) -> (u32, u32) {
-    match r {
-        Ok(()) => (0, 0),
-        Err(fault) => (fault.number(), fault.details().0),
-    }
-}
-
 #[cfg(test)]
 mod tests {
-    use super::told;
     use array::array::Array;
     use codes::{Code, DoubleParity, SingleParity, encode, restore};
+    use faults::fault::ArrayFault;
     use field::{double, inverse, logarithm, power, product};
     use layout::stripes::{locate, place};
     use memory::Memory;
+    use std::alloc::{AllocError, Global};
     use std::test::Fail;
     use writing::write::write;
+
+    // What a call answers: of a refusal its number and its first detail.
+    type Told = Result<(), (u32, u32)>;
+
+    fn told(r: Result<(), ArrayFault>) -> Told {
+        r.map_err(|fault| (fault.number(), fault.details().0))
+    }
+
+    // An array of 4 disks with 8 blocks each is formatted, and then written to: what each of these calls answers. A write has a block number and a length.
+    fn answers(heap: Global, cells: u32, writes: &[(u32, usize)]) -> Result<Vec<Told>, AllocError> {
+        let mut bytes = vec![in heap; 0u8; 512 * (32 + cells as usize)]?;
+        let mut work = [0u8; 10240];
+        let mut array = Array::new(Memory::new(bytes.as_mut_slice(), 4, 8, cells), SingleParity);
+        let mut all = vec![in heap; told(array.format(&mut work))]?;
+        for (number, length) in writes.iter() {
+            let block = &[1u8; 512][..*length.min(&512)];
+            all.push(told(write(&mut array, *number, block, &mut work)))?;
+        }
+        Ok(all)
+    }
 
     #[test]
     fn bytes_as_field_elements(rt: HostRuntime) {
@@ -72,62 +82,27 @@ mod tests {
     // With 8 blocks on a disk and 3 data columns there are blocks 0 to 23.
     #[test]
     fn last_block(rt: HostRuntime) -> Result<(), Fail> {
-        let mut bytes = vec![in rt.alloc(); 0u8; 512 * 56]?;
-        let mut work = vec![in rt.alloc(); 0u8; 10240]?;
-        let mut array = Array::new(Memory::new(bytes.as_mut_slice(), 4, 8, 24), SingleParity);
-        assert_eq!(rt; told(array.format(work.as_mut_slice())), (0, 0));
-        assert_eq!(rt;
-            told(write(&mut array, 23, &[1; 512], work.as_mut_slice())),
-            (0, 0)
-        );
-        assert_eq!(rt;
-            told(write(&mut array, 24, &[1; 512], work.as_mut_slice())),
-            (3, 0)
-        );
-        assert_eq!(rt;
-            told(write(&mut array, 0, &[1; 511], work.as_mut_slice())),
-            (1, 0)
-        );
+        let all = answers(rt.alloc(), 24, &[(23, 512), (24, 512), (0, 511)])?;
+        let wanted = [Ok(()), Ok(()), Err((3, 0)), Err((1, 0))];
+        assert_eq!(rt; all.as_slice(), wanted.as_slice());
         Ok(())
     }
 
     // With 8 cells one write is taken, and a second to the same stripe is refused with 4 cells free.
     #[test]
     fn eight_cells(rt: HostRuntime) -> Result<(), Fail> {
-        let mut bytes = vec![in rt.alloc(); 0u8; 512 * 40]?;
-        let mut work = vec![in rt.alloc(); 0u8; 10240]?;
-        let mut array = Array::new(Memory::new(bytes.as_mut_slice(), 4, 8, 8), SingleParity);
-        assert_eq!(rt; told(array.format(work.as_mut_slice())), (0, 0));
-        assert_eq!(rt;
-            told(write(&mut array, 0, &[1; 512], work.as_mut_slice())),
-            (0, 0)
-        );
-        assert_eq!(rt;
-            told(write(&mut array, 1, &[1; 512], work.as_mut_slice())),
-            (16, 4)
-        );
+        let all = answers(rt.alloc(), 8, &[(0, 512), (1, 512)])?;
+        let wanted = [Ok(()), Ok(()), Err((16, 4))];
+        assert_eq!(rt; all.as_slice(), wanted.as_slice());
         Ok(())
     }
 
     // With 9 cells one to another stripe is refused with 5 free, and one to the same stripe is taken.
     #[test]
     fn nine_cells(rt: HostRuntime) -> Result<(), Fail> {
-        let mut bytes = vec![in rt.alloc(); 0u8; 512 * 41]?;
-        let mut work = vec![in rt.alloc(); 0u8; 10240]?;
-        let mut array = Array::new(Memory::new(bytes.as_mut_slice(), 4, 8, 9), SingleParity);
-        assert_eq!(rt; told(array.format(work.as_mut_slice())), (0, 0));
-        assert_eq!(rt;
-            told(write(&mut array, 0, &[1; 512], work.as_mut_slice())),
-            (0, 0)
-        );
-        assert_eq!(rt;
-            told(write(&mut array, 3, &[1; 512], work.as_mut_slice())),
-            (16, 5)
-        );
-        assert_eq!(rt;
-            told(write(&mut array, 1, &[1; 512], work.as_mut_slice())),
-            (0, 0)
-        );
+        let all = answers(rt.alloc(), 9, &[(0, 512), (3, 512), (1, 512)])?;
+        let wanted = [Ok(()), Ok(()), Err((16, 5)), Ok(())];
+        assert_eq!(rt; all.as_slice(), wanted.as_slice());
         Ok(())
     }
 }

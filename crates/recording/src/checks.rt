@@ -1,6 +1,7 @@
-// Check bytes by products that are made bit by bit, to compare the check blocks on the disks with.
+// Check blocks by products that are made bit by bit, to compare the check blocks on the disks with.
 
 // The product of two bytes modulo x^8 + x^4 + x^3 + x^2 + 1.
+// The comparison program has it too: each program stands alone, and the reference there shares no code.
 fn times(a: u8, b: u8) -> u8 {
     let mut sum = 0u8;
     let mut shifted = a;
@@ -19,23 +20,21 @@ fn times(a: u8, b: u8) -> u8 {
 
 // 2 to the power r * j.
 fn weight(r: usize, j: usize) -> u8 {
-    let mut w = 1u8;
-    for _ in 0..r {
-        for _ in 0..j {
-            w = times(w, 2);
-        }
-    }
-    w
+    (0..r.saturating_mul(j)).fold(1u8, |w, _| times(w, 2))
 }
 
-// Byte `i` of check row `r` of a stripe whose data blocks stand one after the other from `first` on.
-pub(crate) fn check_byte(data: &[u8], first: usize, columns: usize, r: usize, i: usize) -> u8 {
-    let mut sum = 0u8;
-    for j in 0..columns {
-        let at = first
-            .saturating_add(j.saturating_mul(512))
-            .saturating_add(i);
-        sum ^= times(weight(r, j), data.get(at).copied().unwrap_or(0));
+// Adds `w` times a block to a sum, byte by byte.
+fn gather(sum: &mut [u8; 512], w: u8, block: &[u8]) {
+    for (s, b) in sum.iter_mut().zip(block.iter()) {
+        *s = *s ^ times(w, *b);
+    }
+}
+
+// Check row `r` of a stripe's data blocks, which stand one after the other.
+pub(crate) fn check_block(data: &[u8], r: usize) -> [u8; 512] {
+    let mut sum = [0u8; 512];
+    for (j, block) in data.chunks(512).enumerate() {
+        gather(&mut sum, weight(r, j), block);
     }
     sum
 }

@@ -1,177 +1,83 @@
 // A recording spread over columns, block by block, with check columns behind them.
-use crate::combinations::Choice;
+use crate::{DATA, STRIPE};
 use codes::Code;
 use std::alloc::{AllocError, Global};
 
-#[derive(Drop)]
-pub struct Columns {
-    // the columns, all of one length
-    columns: Vec<Vec<u8>>,
+// N columns, those of data first.
+#[derive(Clone, Drop)]
+pub struct Columns<const N: usize> {
+    // the bytes at each place of the columns
+    rows: Vec<[u8; N]>,
 }
 
 // What stands in a lost column until it is restored.
 const GONE: u8 = 0xE5;
 
-impl Columns {
-    // Block b of the recording goes to column b mod k; the last stripe is filled up with zeros.
-    pub(crate) fn spread(heap: Global, recording: &[u8], k: usize) -> Result<Columns, AllocError> {
-        let mut columns = Vec::new(heap);
-        for _ in 0..k {
-            columns.push(Vec::new(heap))?;
+// Overwrites the bytes that are lost.
+fn lose(row: &mut [u8], lost: &[bool]) {
+    for (b, gone) in row.iter_mut().zip(lost.iter()) {
+        if *gone {
+            *b = GONE;
         }
-        let mut c = 0usize;
-        for block in recording.chunks(512) {
-            if let Some(column) = columns.get_mut(c) {
-                extend_to(column, block, 512)?;
-            }
-            c = next_column(c, k);
+    }
+}
+
+impl<const N: usize> Columns<N> {
+    // Block b of the recording goes to column b mod DATA; the last stripe is filled up with zeros. The code's checks stand behind.
+    pub(crate) fn spread<C: Code>(heap: Global, recording: &[u8]) -> Result<Self, AllocError> {
+        let mut columns = Columns {
+            rows: Vec::new(heap),
+        };
+        for stripe in recording.chunks(STRIPE) {
+            columns.push_stripe::<C>(stripe)?;
         }
-        let mut all = Columns { columns };
-        all.level()?;
-        Ok(all)
+        Ok(columns)
     }
 
-    // Fills short columns up with zeros.
-    fn level(&mut self) -> Result<(), AllocError> {
-        let length = self.length();
-        for c in 0..self.columns.len() {
-            if let Some(column) = self.columns.get_mut(c) {
-                column.resize(length, 0)?;
+    fn push_stripe<C: Code>(&mut self, stripe: &[u8]) -> Result<(), AllocError> {
+        for i in 0..512usize {
+            let mut row = [0u8; N];
+            for (b, block) in row.iter_mut().zip(stripe.chunks(512)) {
+                *b = block.get(i).copied().unwrap_or(0);
             }
+            let _ = codes::encode::<C>(DATA, &mut row);
+            self.rows.push(row)?;
         }
         Ok(())
     }
 
-    // How many columns there are.
-    pub(crate) fn width(&self) -> usize {
-        self.columns.len()
-    }
-
-    // The bytes in the first column, which is never the shortest.
+    // The bytes in each column.
     pub(crate) fn length(&self) -> usize {
-        match self.columns.first() {
-            Some(column) => column.len(),
-            None => 0,
-        }
+        self.rows.len()
     }
 
-    fn byte(&self, c: usize, i: usize) -> u8 {
-        match self.columns.get(c) {
-            Some(column) => column.get(i).copied().unwrap_or(0),
-            None => 0,
-        }
-    }
-
-    fn set(&mut self, c: usize, i: usize, b: u8) {
-        if let Some(column) = self.columns.get_mut(c) {
-            if let Some(place) = column.get_mut(i) {
-                *place = b;
-            }
-        }
-    }
-
-    // The bytes at place `i` of all columns.
-    fn row(&self, i: usize) -> [u8; 16] {
-        let mut row = [0u8; 16];
-        for c in 0..16usize {
-            row[c] = self.byte(c, i);
-        }
-        row
-    }
-
-    // Adds the check columns of a code.
-    pub(crate) fn add_checks<C: Code>(&mut self, heap: Global, k: usize) -> Result<(), AllocError> {
-        let length = self.length();
-        for _ in 0..C::check_rows() {
-            let column = vec![in heap; 0u8; length]?;
-            self.columns.push(column)?;
-        }
-        let n = self.columns.len();
-        for i in 0..length {
-            let mut row = self.row(i);
-            if n <= 16 {
-                let _ = codes::encode::<C>(k, &mut row[0..n]);
-            }
-            self.put_row(i, &row);
-        }
-        Ok(())
-    }
-
-    fn put_row(&mut self, i: usize, row: &[u8; 16]) {
-        for c in 0..16usize {
-            self.set(c, i, row[c]);
-        }
-    }
-
-    pub(crate) fn copied(&self, heap: Global) -> Result<Columns, AllocError> {
-        let mut columns = Vec::new(heap);
-        for column in self.columns.iter() {
-            columns.push(column.clone()?)?;
-        }
-        Ok(Columns { columns })
-    }
-
-    // Overwrites the columns that the choice names.
-    pub(crate) fn lose(&mut self, choice: &Choice) {
-        let length = self.length();
-        for c in 0..16usize {
-            if choice.lost[c] {
-                for i in 0..length {
-                    self.set(c, i, GONE);
-                }
-            }
-        }
-    }
-
-    // Restores them, row by row; false if a row was refused.
-    pub(crate) fn restore<C: Code>(&mut self, k: usize, choice: &Choice) -> bool {
-        let n = self.columns.len();
-        let mut all = n <= 16;
-        for i in 0..self.length() {
-            let mut row = self.row(i);
-            if n <= 16 {
-                all = all & codes::restore::<C>(k, &mut row[0..n], &choice.lost);
-            }
-            self.put_row(i, &row);
+    // Overwrites the lost columns and restores them, row by row; false if a row was refused.
+    pub(crate) fn restore<C: Code>(&mut self, lost: &[bool; N]) -> bool {
+        let mut all = true;
+        for row in self.rows.iter_mut() {
+            lose(&mut row[..], lost);
+            all &= codes::restore::<C>(DATA, &mut row[..], lost);
         }
         all
     }
 
-    // The recording, from its data columns.
-    pub(crate) fn joined(
-        &self,
-        heap: Global,
-        k: usize,
-        length: usize,
-    ) -> Result<Vec<u8>, AllocError> {
+    // The first `length` bytes of the recording, from its data columns.
+    pub(crate) fn joined(&self, heap: Global, length: usize) -> Result<Vec<u8>, AllocError> {
         let mut out = Vec::new(heap);
-        let mut c = 0usize;
-        let mut at = 0usize;
-        for _ in 0..length.div_ceil(512) {
-            for i in 0..512usize {
-                if out.len() < length {
-                    out.push(self.byte(c, at.saturating_add(i)))?;
-                }
-            }
-            c = next_column(c, k);
-            if c == 0 {
-                at = at.saturating_add(512);
-            }
+        for stripe in self.rows.chunks(512) {
+            push_data(&mut out, stripe)?;
         }
+        out.truncate(length);
         Ok(out)
     }
 }
 
-fn next_column(c: usize, k: usize) -> usize {
-    let next = c.saturating_add(1);
-    if next < k { next } else { 0 }
-}
-
-// Appends a block, filled up with zeros to `size` bytes.
-fn extend_to(column: &mut Vec<u8>, block: &[u8], size: usize) -> Result<(), AllocError> {
-    column.extend_from_slice(block)?;
-    for _ in block.len()..size {
-        column.push(0)?;
+// Appends the data blocks of a stripe, one after the other.
+fn push_data<const N: usize>(out: &mut Vec<u8>, stripe: &[[u8; N]]) -> Result<(), AllocError> {
+    for c in 0..DATA.min(N) {
+        for row in stripe.iter() {
+            out.push(row[c])?;
+        }
     }
     Ok(())
 }

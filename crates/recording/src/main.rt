@@ -4,49 +4,58 @@
 
 mod checks;
 mod columns;
-mod combinations;
 mod week;
 
 use codes::{Code, DoubleParity, SingleParity};
 use columns::Columns;
-use combinations::Choice;
 use std::alloc::Global;
 use std::{env, fs};
 
-// Data columns, for both codes.
+// Data columns, for both codes, and the bytes of a stripe of them.
 const DATA: usize = 5;
 
+const STRIPE: usize = 512 * DATA;
+
+// All columns, with those of checks.
+const SINGLE: usize = DATA + 1;
+
+const DOUBLE: usize = DATA + 2;
+
 // What became of one recording under one code.
-#[derive(Clone, Copy)]
+#[derive(Clone, Copy, Default)]
 struct Outcome {
     combinations: usize,
     whole: usize,
 }
 
-// Loses the columns that the choice names, restores them, and says whether the recording came back as it was.
-fn survives<C: Code>(
+// The flags of the lost columns: those whose bit is set.
+fn flags<const N: usize>(bits: u32) -> [bool; N] {
+    std::array::from_fn(|c| c < 32 && (bits >> (c as u32)) & 1 == 1)
+}
+
+// Loses columns, restores them, and says whether the recording came back as it was.
+fn survives<C: Code, const N: usize>(
     heap: Global,
-    spread: &Columns,
-    choice: &Choice,
+    spread: &Columns<N>,
+    lost: &[bool; N],
     recording: &[u8],
 ) -> anyhow::Result<bool> {
-    let mut columns = spread.copied(heap)?;
-    columns.lose(choice);
-    let restored = columns.restore::<C>(DATA, choice);
-    let back = columns.joined(heap, DATA, recording.len())?;
+    let mut columns = spread.clone()?;
+    let restored = columns.restore::<C>(lost);
+    let back = columns.joined(heap, recording.len())?;
     Ok(restored && back.as_slice() == recording)
 }
 
-fn lose_all<C: Code>(heap: Global, spread: &Columns, recording: &[u8]) -> anyhow::Result<Outcome> {
-    let mut outcome = Outcome {
-        combinations: 0,
-        whole: 0,
-    };
-    for bits in 0..65536u32 {
-        let choice = Choice::of(bits);
-        if choice.size() == C::check_rows() && choice.below(spread.width()) {
+fn lose_all<C: Code, const N: usize>(
+    heap: Global,
+    spread: &Columns<N>,
+    recording: &[u8],
+) -> anyhow::Result<Outcome> {
+    let mut outcome = Outcome::default();
+    for bits in 0..1u32 << N.min(16) {
+        if bits.count_ones() as usize == C::check_rows() {
             outcome.combinations = outcome.combinations.saturating_add(1);
-            if survives::<C>(heap, spread, &choice, recording)? {
+            if survives::<C, N>(heap, spread, &flags::<N>(bits), recording)? {
                 outcome.whole = outcome.whole.saturating_add(1);
             }
         }
@@ -54,19 +63,25 @@ fn lose_all<C: Code>(heap: Global, spread: &Columns, recording: &[u8]) -> anyhow
     Ok(outcome)
 }
 
-fn treat<C: Code>(rt: &HostRuntime, name: &str, recording: &[u8]) -> anyhow::Result<()> {
+// A recording under a code with N columns in all.
+fn treat<C: Code + Drop, const N: usize>(
+    rt: &HostRuntime,
+    name: &str,
+    code: C,
+    recording: &[u8],
+) -> anyhow::Result<()> {
     let heap = rt.alloc();
     let checks = C::check_rows();
-    let mut spread = Columns::spread(heap, recording, DATA)?;
-    spread.add_checks::<C>(heap, DATA)?;
+    let spread: Columns<N> = Columns::spread::<C>(heap, recording)?;
     let length = spread.length();
     println!(rt; "{name}: {DATA} columns of data, {checks} of checks, {length} bytes each")?;
-    let outcome = lose_all::<C>(heap, &spread, recording)?;
-    let all = outcome.combinations;
-    let whole = outcome.whole;
-    println!(rt; "  ways to lose as many columns as there are checks: {all}")?;
+    let Outcome {
+        combinations,
+        whole,
+    } = lose_all::<C, N>(heap, &spread, recording)?;
+    println!(rt; "  ways to lose as many columns as there are checks: {combinations}")?;
     println!(rt; "  times the recording came back as it was, byte by byte: {whole}")?;
-    Ok(())
+    week::treat_week(rt, code, recording)
 }
 
 fn run(rt: &HostRuntime) -> anyhow::Result<()> {
@@ -77,14 +92,12 @@ fn run(rt: &HostRuntime) -> anyhow::Result<()> {
         None => String::from_str(rt.alloc(), "recording.wav")?,
     };
     let recording = fs::read(rt, name.as_str())?;
+    let recording = recording.as_slice();
     let bytes = recording.len();
     let blocks = bytes.div_ceil(512);
     println!(rt; "{name}: {bytes} bytes, {blocks} blocks of 512 bytes")?;
-    treat::<SingleParity>(rt, "Code 1, single parity", recording.as_slice())?;
-    week::treat_week(rt, SingleParity, recording.as_slice())?;
-    treat::<DoubleParity>(rt, "Code 2, double parity", recording.as_slice())?;
-    week::treat_week(rt, DoubleParity, recording.as_slice())?;
-    Ok(())
+    treat::<SingleParity, SINGLE>(rt, "Code 1, single parity", SingleParity, recording)?;
+    treat::<DoubleParity, DOUBLE>(rt, "Code 2, double parity", DoubleParity, recording)
 }
 
 fn main(rt: HostRuntime) -> anyhow::Result<()> {

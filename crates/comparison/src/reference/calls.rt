@@ -1,38 +1,160 @@
 // The nine calls.
+ghost use Rattle.std.specs.Iterator.{at_most};
+
 use crate::reference::checks;
 use crate::reference::checks::{Block, ZEROS};
 use crate::reference::device::{CutAt, Device};
 
-// A refusal: its number and its two details.
+// Why a call was refused.
 #[derive(Clone, Copy)]
-pub struct Refusal {
-    pub number: u32,
-    pub a: usize,
-    pub b: usize,
+pub enum Refusal {
+    BlockLength,
+    ShortWork,
+    NoBlock,
+    NoStripe,
+    NoSlot,
+    Sizes,
+    NotStarted,
+    Live,
+    Dead,
+    Rebuilt,
+    // the stripe, and how many columns it lost
+    PastRepair(usize, usize),
+    // how many cells are free
+    Full(usize),
+    // the stripe
+    Pending(usize),
+    NotLaidOut,
+    // the cell
+    Damaged(usize),
+    Overfull,
+    Cut(CutAt),
 }
 
-impl From<CutAt> for Refusal {
-    fn from(c: CutAt) -> Refusal {
-        Refusal {
-            number: 20,
-            a: c.a,
-            b: c.b,
+// The layer in which a refusal arises.
+#[derive(Clone, Copy, PartialEq)]
+pub enum Layer {
+    Backplane,
+    Log,
+    Stripe,
+    Array,
+}
+
+impl Refusal {
+    pub(crate) fn number(self) -> u32 {
+        match self {
+            Refusal::BlockLength => 1,
+            Refusal::ShortWork => 2,
+            Refusal::NoBlock => 3,
+            Refusal::NoStripe => 4,
+            Refusal::NoSlot => 5,
+            Refusal::Sizes => 6,
+            Refusal::NotStarted => 11,
+            Refusal::Live => 12,
+            Refusal::Dead => 13,
+            Refusal::Rebuilt => 14,
+            Refusal::PastRepair(_, _) => 15,
+            Refusal::Full(_) => 16,
+            Refusal::Pending(_) => 17,
+            Refusal::NotLaidOut => 18,
+            Refusal::Damaged(_) => 19,
+            Refusal::Overfull => 19,
+            Refusal::Cut(_) => 20,
+        }
+    }
+
+    pub(crate) fn details(self) -> (usize, usize) {
+        match self {
+            Refusal::PastRepair(stripe, lost) => (stripe, lost),
+            Refusal::Full(free) => (free, 0),
+            Refusal::Pending(stripe) => (stripe, 0),
+            Refusal::Damaged(cell) => (cell, 0),
+            Refusal::Cut(CutAt::OfBlock(slot, block)) => (slot, block),
+            Refusal::Cut(CutAt::OfCell(cell)) => (255, cell),
+            _ => (0, 0),
+        }
+    }
+
+    pub(crate) fn layer(self) -> Layer {
+        match self.number() {
+            12 | 13 | 20 => Layer::Backplane,
+            16 | 17 | 19 => Layer::Log,
+            3 | 4 | 15 => Layer::Stripe,
+            _ => Layer::Array,
         }
     }
 }
 
-fn plain(number: u32) -> Refusal {
-    Refusal { number, a: 0, b: 0 }
+impl From<CutAt> for Refusal {
+    fn from(c: CutAt) -> Refusal {
+        Refusal::Cut(c)
+    }
 }
 
-// The layer in which a number arises: 1 backplane, 2 log, 3 stripe, 4 array.
-pub(crate) fn layer_of(number: u32) -> u32 {
-    match number {
-        7 | 12 | 13 | 20 => 1,
-        16 | 17 | 19 => 2,
-        3 | 4 | 15 => 3,
-        _ => 4,
+#[derive(Clone, Copy)]
+enum Kind {
+    // of a block of this column
+    Write(usize),
+    Fold,
+}
+
+// A record's head.
+#[derive(Clone, Copy)]
+struct Record {
+    at: usize,
+    kind: Kind,
+    stripe: usize,
+    cells: usize,
+}
+
+// The records of the log one after the other, up to the first that is damaged.
+#[derive(Clone, Copy)]
+struct Records<'a> {
+    reference: &'a Reference,
+    at: usize,
+    used: usize,
+    // a record is a cell at least
+    most: usize,
+}
+
+impl<'a> Iterator for Records<'a> {
+    type Item = Result<Record, Refusal>;
+
+    ghost remaining = { λ s. at_most s.most };
+
+    fn next(&mut self) -> Option<Result<Record, Refusal>> {
+        if self.most == 0 || self.at > self.used {
+            return None;
+        }
+        self.most -= 1;
+        let at = self.at;
+        let Some(record) = self.reference.record_at(at, self.used) else {
+            self.most = 0;
+            return Some(Err(Refusal::Damaged(at)));
+        };
+        self.at = at.saturating_add(record.cells);
+        Some(Ok(record))
     }
+}
+
+fn number_in(x: &Block, at: usize) -> usize {
+    match x.get(at..at.saturating_add(4)) {
+        Some([a, b, c, d]) => u32::from_le_bytes([*a, *b, *c, *d]) as usize,
+        _ => 0,
+    }
+}
+
+fn put_number(x: &mut Block, at: usize, n: usize) {
+    let bytes = n.to_le_bytes();
+    for (place, byte) in x.iter_mut().skip(at).zip(bytes.iter().take(4)) {
+        *place = *byte;
+    }
+}
+
+fn sum(x: Block, y: Block) -> Block {
+    let mut both = x;
+    checks::gather(&mut both, 1, &y);
+    both
 }
 
 #[derive(Drop)]
@@ -43,42 +165,6 @@ pub struct Reference {
     pub started: bool,
     used: usize,
     good: [usize; 16],
-}
-
-// A record's head.
-#[derive(Clone, Copy)]
-struct Record {
-    at: usize,
-    write: bool,
-    column: usize,
-    stripe: usize,
-    cells: usize,
-}
-
-fn number_in(x: &Block, at: usize) -> usize {
-    let mut n = 0usize;
-    for i in 0..4usize {
-        let byte = x.get(at.saturating_add(3 - i)).copied().unwrap_or(0);
-        n = n.wrapping_mul(256).wrapping_add(byte as usize);
-    }
-    n
-}
-
-fn with_number(x: Block, at: usize, n: usize) -> Block {
-    let mut out = x;
-    let mut rest = n;
-    for i in 0..4usize {
-        let place = at.saturating_add(i);
-        if place < 512 {
-            out[place] = (rest % 256) as u8;
-        }
-        rest /= 256;
-    }
-    out
-}
-
-fn sum(x: Block, y: Block) -> Block {
-    checks::gathered(x, 1, y)
 }
 
 impl Reference {
@@ -94,35 +180,27 @@ impl Reference {
     }
 
     fn columns(&self) -> usize {
-        self.device.slots.saturating_sub(self.rows)
+        self.device.slots().saturating_sub(self.rows)
     }
 
     fn within_limits(&self) -> bool {
         let k = self.columns();
-        let d = &self.device;
-        d.slots >= self.rows
-            && k >= 2
-            && k <= 12
-            && d.blocks >= 1
-            && d.blocks <= 65536
-            && d.cells >= 8
-            && d.cells <= 4096
+        let blocks = self.device.blocks;
+        let cells = self.device.cells();
+        k >= 2 && k <= 12 && blocks >= 1 && blocks <= 65536 && cells >= 8 && cells <= 4096
     }
 
     fn header(&self, used: usize, good: &[usize; 16]) -> Block {
         let mut x = ZEROS;
-        x[0] = 0x50;
-        x[1] = 0x4C;
-        x[2] = 0x4F;
-        x[3] = 0x47;
+        x[0..4].copy_from_slice(b"PLOG");
         x[4] = (self.rows % 256) as u8;
         x[5] = (self.columns() % 256) as u8;
-        x[6] = (self.device.slots % 256) as u8;
-        x = with_number(x, 8, self.device.blocks);
-        x = with_number(x, 12, self.device.cells);
-        x = with_number(x, 16, used);
-        for d in 0..16usize {
-            x = with_number(x, 20 + 4 * d, good[d]);
+        x[6] = (self.device.slots() % 256) as u8;
+        put_number(&mut x, 8, self.device.blocks);
+        put_number(&mut x, 12, self.device.cells());
+        put_number(&mut x, 16, used);
+        for (at, g) in (20..84usize).step_by(4).zip(good.iter()) {
+            put_number(&mut x, at, *g);
         }
         x
     }
@@ -131,14 +209,8 @@ impl Reference {
         self.good.get(d).copied().unwrap_or(0)
     }
 
-    fn set_good(&mut self, d: usize, g: usize) {
-        if d < 16 {
-            self.good[d] = g;
-        }
-    }
-
     fn slot(&self, s: usize, c: usize) -> usize {
-        let n = self.device.slots;
+        let n = self.device.slots();
         if n == 0 { 0 } else { s.saturating_add(c) % n }
     }
 
@@ -148,136 +220,106 @@ impl Reference {
     }
 
     fn lost_columns(&self, s: usize) -> usize {
-        let mut lost = 0usize;
-        for c in 0..self.device.slots {
-            if !self.is_good(s, c) {
-                lost = lost.saturating_add(1);
-            }
-        }
-        lost
+        (0..self.device.slots())
+            .filter(|c| !self.is_good(s, *c))
+            .count()
     }
 
     // The record whose head is in cell `at`, if it is whole and ends by cell `used`.
     fn record_at(&self, at: usize, used: usize) -> Option<Record> {
         let x = self.device.cell(at);
-        let write = x[0] == 1;
         let column = x[1] as usize;
-        let stripe = number_in(&x, 4);
-        let cells = if write {
-            3
-        } else {
-            self.rows.saturating_add(1)
+        let kind = match x[0] {
+            1 if column < self.columns() => Kind::Write(column),
+            2 if column == 0 => Kind::Fold,
+            _ => return None,
         };
-        if x[0] != 1 && x[0] != 2 {
-            return None;
-        }
-        if write && column >= self.columns() || !write && column != 0 {
-            return None;
-        }
-        if stripe >= self.device.blocks || x[2] != 0 || x[3] != 0 {
-            return None;
-        }
-        for byte in x[8..].iter() {
-            if *byte != 0 {
-                return None;
-            }
-        }
-        if at.saturating_add(cells) > used.saturating_add(1) {
+        let cells = match kind {
+            Kind::Write(_) => 3,
+            Kind::Fold => self.rows.saturating_add(1),
+        };
+        let stripe = number_in(&x, 4);
+        let ends = at.saturating_add(cells) <= used.saturating_add(1);
+        let zeros = x[2] == 0 && x[3] == 0 && x[8..].iter().all(|b| *b == 0);
+        if stripe >= self.device.blocks || !ends || !zeros {
             return None;
         }
         Some(Record {
             at,
-            write,
-            column,
+            kind,
             stripe,
             cells,
         })
     }
 
+    // The records in the cells up to `used`.
+    fn records(&self, used: usize) -> Records<'_> {
+        Records {
+            reference: self,
+            at: 1,
+            used,
+            most: used,
+        }
+    }
+
     // How many records of the stripe are pending.
     fn pending(&self, s: usize, used: usize) -> usize {
-        let mut at = 1usize;
         let mut n = 0usize;
-        for _ in 0..used {
-            if at > used {
-                break;
+        for record in self.records(used) {
+            match record {
+                Ok(r) if r.stripe == s => {
+                    n = match r.kind {
+                        Kind::Write(_) => n.saturating_add(1),
+                        Kind::Fold => 0,
+                    };
+                }
+                _ => {}
             }
-            let Some(r) = self.record_at(at, used) else {
-                break;
-            };
-            if r.stripe == s {
-                n = if r.write { n.saturating_add(1) } else { 0 };
-            }
-            at = at.saturating_add(r.cells);
         }
         n
     }
 
     // The sum of the shares of the stripe's pending differences in check row `row`.
     fn pending_sum(&self, s: usize, row: usize) -> Block {
-        let mut at = 1usize;
         let mut total = ZEROS;
-        for _ in 0..self.used {
-            if at > self.used {
-                break;
+        for record in self.records(self.used) {
+            match record {
+                Ok(r) if r.stripe == s => match r.kind {
+                    Kind::Write(c) => {
+                        let delta = self.device.cell(r.at.saturating_add(1));
+                        checks::gather(&mut total, checks::weight(row, c), &delta);
+                    }
+                    Kind::Fold => total = ZEROS,
+                },
+                _ => {}
             }
-            let Some(r) = self.record_at(at, self.used) else {
-                break;
-            };
-            if r.stripe == s && r.write {
-                let more = checks::gathered(
-                    total,
-                    checks::weight(row, r.column),
-                    self.device.cell(at.saturating_add(1)),
-                );
-                total = more;
-            } else if r.stripe == s {
-                total = ZEROS;
-            }
-            at = at.saturating_add(r.cells);
         }
         total
     }
 
-    // The stripes with pending records, and the lowest of them.
-    fn owing(&self, used: usize, also: Option<usize>) -> (usize, usize) {
-        let mut count = 0usize;
-        let mut lowest = 0usize;
-        for s in 0..self.device.blocks {
-            let asked = match also {
-                Some(t) => t == s,
-                None => false,
-            };
-            if asked || self.pending(s, used) > 0 {
-                if count == 0 {
-                    lowest = s;
-                }
-                count = count.saturating_add(1);
-            }
-        }
-        (count, lowest)
+    fn owes(&self, s: usize, used: usize) -> bool {
+        self.pending(s, used) > 0
+    }
+
+    // How many stripes have pending records, or are `also`.
+    fn owing(&self, used: usize, also: Option<usize>) -> usize {
+        (0..self.device.blocks)
+            .filter(|s| also == Some(*s) || self.owes(*s, used))
+            .count()
     }
 
     fn lost_flags(&self, s: usize) -> [bool; 16] {
-        let mut lost = [false; 16];
-        for c in 0..16usize {
-            lost[c] = c < self.device.slots && !self.is_good(s, c);
-        }
-        lost
+        std::array::from_fn(|c| c < self.device.slots() && !self.is_good(s, c))
     }
 
     // The blocks of a stripe as they are stored, its checks with the pending shares.
     fn stored_row(&self, s: usize) -> [Block; 16] {
         let mut row = [ZEROS; 16];
         let k = self.columns();
-        for c in 0..16usize {
-            if c < self.device.slots {
-                let stored = self.device.block(self.slot(s, c), s);
-                row[c] = if c < k {
-                    stored
-                } else {
-                    sum(stored, self.pending_sum(s, c - k))
-                };
+        for (c, x) in row.iter_mut().take(self.device.slots()).enumerate() {
+            *x = self.device.block(self.slot(s, c), s);
+            if c >= k {
+                checks::gather(x, 1, &self.pending_sum(s, c - k));
             }
         }
         row
@@ -291,22 +333,36 @@ impl Reference {
         row
     }
 
+    // The last cell.
+    fn last(&self) -> usize {
+        self.device.cells().saturating_sub(1)
+    }
+
+    // The cells in use, and those of a parity record for each of so many stripes.
+    fn room(&self, used: usize, owing: usize) -> usize {
+        used.saturating_add(owing.saturating_mul(self.rows.saturating_add(1)))
+    }
+
     fn work_fits(&self, work: usize) -> Result<(), Refusal> {
-        if work < 10240 { Err(plain(2)) } else { Ok(()) }
+        if work < 10240 {
+            Err(Refusal::ShortWork)
+        } else {
+            Ok(())
+        }
     }
 
     fn open(&self) -> Result<(), Refusal> {
-        if self.started { Ok(()) } else { Err(plain(11)) }
+        if self.started {
+            Ok(())
+        } else {
+            Err(Refusal::NotStarted)
+        }
     }
 
     fn repairable(&self, s: usize) -> Result<(), Refusal> {
         let lost = self.lost_columns(s);
         if lost > self.rows {
-            Err(Refusal {
-                number: 15,
-                a: s,
-                b: lost,
-            })
+            Err(Refusal::PastRepair(s, lost))
         } else {
             Ok(())
         }
@@ -316,7 +372,7 @@ impl Reference {
     fn located(&self, block: usize) -> Result<(usize, usize), Refusal> {
         let k = self.columns();
         if k == 0 || block / k >= self.device.blocks {
-            Err(plain(3))
+            Err(Refusal::NoBlock)
         } else {
             Ok((block / k, block % k))
         }
@@ -324,10 +380,8 @@ impl Reference {
 
     // A store failed: the array is not started any more.
     fn ended<T>(&mut self, r: Result<T, Refusal>) -> Result<T, Refusal> {
-        if let Err(e) = &r {
-            if e.number == 20 {
-                self.started = false;
-            }
+        if let Err(Refusal::Cut(_)) = &r {
+            self.started = false;
         }
         r
     }
@@ -335,12 +389,10 @@ impl Reference {
     pub(crate) fn format(&mut self, work: usize) -> Result<(), Refusal> {
         self.work_fits(work)?;
         if !self.within_limits() {
-            return Err(plain(6));
+            return Err(Refusal::Sizes);
         }
-        for d in 0..self.device.slots {
-            if !self.device.is_live(d) {
-                return Err(plain(13));
-            }
+        if self.device.disks.iter().any(|disk| !disk.live) {
+            return Err(Refusal::Dead);
         }
         self.device.on = true;
         let r = self.format_stores();
@@ -349,16 +401,14 @@ impl Reference {
 
     fn format_stores(&mut self) -> Result<(), Refusal> {
         self.device.store_cell(0, ZEROS)?;
-        for d in 0..self.device.slots {
+        for d in 0..self.device.slots() {
             for b in 0..self.device.blocks {
                 self.device.store_block(d, b, ZEROS)?;
             }
         }
         let mut good = [0usize; 16];
-        for d in 0..16usize {
-            if d < self.device.slots {
-                good[d] = self.device.blocks;
-            }
+        for g in good.iter_mut().take(self.device.slots()) {
+            *g = self.device.blocks;
         }
         let x = self.header(0, &good);
         self.device.store_cell(0, x)?;
@@ -369,29 +419,16 @@ impl Reference {
     }
 
     pub(crate) fn write(&mut self, work: usize, block: usize, bytes: &[u8]) -> Result<(), Refusal> {
-        if bytes.len() != 512 {
-            return Err(plain(1));
-        }
+        let Ok(new) = Block::try_from(bytes) else {
+            return Err(Refusal::BlockLength);
+        };
         self.work_fits(work)?;
         let (s, c) = self.located(block)?;
         self.open()?;
         self.repairable(s)?;
-        let (owing, _) = self.owing(self.used, Some(s));
-        let room = self
-            .used
-            .saturating_add(3)
-            .saturating_add(owing.saturating_mul(self.rows.saturating_add(1)));
-        let last = self.device.cells.saturating_sub(1);
-        if room > last {
-            return Err(Refusal {
-                number: 16,
-                a: last.saturating_sub(self.used),
-                b: 0,
-            });
-        }
-        let mut new = ZEROS;
-        for i in 0..512usize {
-            new[i] = bytes.get(i).copied().unwrap_or(0);
+        let owing = self.owing(self.used, Some(s));
+        if self.room(self.used.saturating_add(3), owing) > self.last() {
+            return Err(Refusal::Full(self.last().saturating_sub(self.used)));
         }
         let r = self.write_stores(s, c, new);
         self.ended(r)
@@ -403,15 +440,20 @@ impl Reference {
         let mut head = ZEROS;
         head[0] = 1;
         head[1] = (c % 256) as u8;
-        head = with_number(head, 4, s);
+        put_number(&mut head, 4, s);
         let u = self.used;
         self.device.store_cell(u.saturating_add(1), head)?;
         self.device.store_cell(u.saturating_add(2), delta)?;
         self.device.store_cell(u.saturating_add(3), new)?;
         self.count_cells(u.saturating_add(3))?;
+        self.store_column(s, c, new)
+    }
+
+    // Stores a block of a stripe, if its column is not lost.
+    fn store_column(&mut self, s: usize, c: usize, x: Block) -> Result<(), Refusal> {
         if self.is_good(s, c) {
             let d = self.slot(s, c);
-            self.device.store_block(d, s, new)?;
+            self.device.store_block(d, s, x)?;
         }
         Ok(())
     }
@@ -427,7 +469,7 @@ impl Reference {
 
     pub(crate) fn read(&self, work: usize, block: usize, length: usize) -> Result<Block, Refusal> {
         if length != 512 {
-            return Err(plain(1));
+            return Err(Refusal::BlockLength);
         }
         self.work_fits(work)?;
         let (s, c) = self.located(block)?;
@@ -442,16 +484,13 @@ impl Reference {
     pub(crate) fn fold(&mut self, work: usize, s: usize) -> Result<usize, Refusal> {
         self.work_fits(work)?;
         if s >= self.device.blocks {
-            return Err(plain(4));
+            return Err(Refusal::NoStripe);
         }
         self.open()?;
         let n = self.pending(s, self.used);
         // only a damaged log has no room for the record: it counts as not started
-        if n > 0
-            && self.used.saturating_add(1).saturating_add(self.rows)
-                > self.device.cells.saturating_sub(1)
-        {
-            return Err(plain(11));
+        if n > 0 && self.room(self.used, 1) > self.last() {
+            return Err(Refusal::NotStarted);
         }
         self.repairable(s)?;
         if n == 0 {
@@ -467,21 +506,17 @@ impl Reference {
         let k = self.columns();
         let mut head = ZEROS;
         head[0] = 2;
-        head = with_number(head, 4, s);
-        let mut at = self.used.saturating_add(1);
-        self.device.store_cell(at, head)?;
-        for r in 0..self.rows {
-            at = at.saturating_add(1);
-            self.device
-                .store_cell(at, checks::column(&row, k.saturating_add(r)))?;
+        put_number(&mut head, 4, s);
+        let first = self.used.saturating_add(1);
+        self.device.store_cell(first, head)?;
+        for r in 1..=self.rows {
+            let x = checks::column(&row, k.saturating_add(r - 1));
+            self.device.store_cell(first.saturating_add(r), x)?;
         }
-        self.count_cells(at)?;
+        self.count_cells(first.saturating_add(self.rows))?;
         for r in 0..self.rows {
             let c = k.saturating_add(r);
-            if self.is_good(s, c) {
-                let d = self.slot(s, c);
-                self.device.store_block(d, s, checks::column(&row, c))?;
-            }
+            self.store_column(s, c, checks::column(&row, c))?;
         }
         Ok(())
     }
@@ -489,34 +524,30 @@ impl Reference {
     pub(crate) fn clear(&mut self, work: usize) -> Result<(), Refusal> {
         self.work_fits(work)?;
         self.open()?;
-        let (owing, lowest) = self.owing(self.used, None);
-        if owing > 0 {
-            return Err(Refusal {
-                number: 17,
-                a: lowest,
-                b: 0,
-            });
+        let lowest = (0..self.device.blocks).find(|s| self.owes(*s, self.used));
+        if let Some(s) = lowest {
+            return Err(Refusal::Pending(s));
         }
         let r = self.count_cells(0);
         self.ended(r)
     }
 
     pub(crate) fn pull(&mut self, d: usize) -> Result<(), Refusal> {
-        if d >= self.device.slots {
-            return Err(plain(5));
+        if d >= self.device.slots() {
+            return Err(Refusal::NoSlot);
         }
-        self.device.set_life(d, false);
+        self.device.pull(d);
         Ok(())
     }
 
     pub(crate) fn fit(&mut self, work: usize, d: usize) -> Result<(), Refusal> {
         self.work_fits(work)?;
-        if d >= self.device.slots {
-            return Err(plain(5));
+        if d >= self.device.slots() {
+            return Err(Refusal::NoSlot);
         }
         self.open()?;
         if self.device.is_live(d) {
-            return Err(plain(12));
+            return Err(Refusal::Live);
         }
         let r = self.store_good(d, 0);
         self.ended(r)?;
@@ -527,27 +558,27 @@ impl Reference {
     // Cell 0 with other good stripes for a slot.
     fn store_good(&mut self, d: usize, g: usize) -> Result<(), Refusal> {
         let mut good = self.good;
-        if d < 16 {
-            good[d] = g;
+        if let Some(place) = good.get_mut(d) {
+            *place = g;
         }
         let x = self.header(self.used, &good);
         self.device.store_cell(0, x)?;
-        self.set_good(d, g);
+        self.good = good;
         Ok(())
     }
 
     pub(crate) fn rebuild(&mut self, work: usize, d: usize) -> Result<usize, Refusal> {
         self.work_fits(work)?;
-        if d >= self.device.slots {
-            return Err(plain(5));
+        if d >= self.device.slots() {
+            return Err(Refusal::NoSlot);
         }
         self.open()?;
         if !self.device.is_live(d) {
-            return Err(plain(13));
+            return Err(Refusal::Dead);
         }
         let s = self.good_stripes(d);
         if s >= self.device.blocks {
-            return Err(plain(14));
+            return Err(Refusal::Rebuilt);
         }
         self.repairable(s)?;
         let r = self.rebuild_stores(d, s);
@@ -556,18 +587,14 @@ impl Reference {
     }
 
     fn rebuild_stores(&mut self, d: usize, s: usize) -> Result<(), Refusal> {
-        let row = self.row(s);
         let k = self.columns();
-        for c in 0..self.device.slots {
-            if self.slot(s, c) == d {
-                let found = checks::column(&row, c);
-                let x = if c < k {
-                    found
-                } else {
-                    sum(found, self.pending_sum(s, c - k))
-                };
-                self.device.store_block(d, s, x)?;
+        let column = (0..self.device.slots()).find(|c| self.slot(s, *c) == d);
+        if let Some(c) = column {
+            let mut x = checks::column(&self.row(s), c);
+            if c >= k {
+                checks::gather(&mut x, 1, &self.pending_sum(s, c - k));
             }
+            self.device.store_block(d, s, x)?;
         }
         self.store_good(d, s.saturating_add(1))
     }
@@ -586,52 +613,37 @@ impl Reference {
     // Reads cell 0 and the log; the last record, if there is one.
     fn judge(&mut self) -> Result<Option<Record>, Refusal> {
         if !self.within_limits() {
-            return Err(plain(18));
+            return Err(Refusal::NotLaidOut);
         }
         let x = self.device.cell(0);
         let used = number_in(&x, 16);
         let mut good = [0usize; 16];
-        for d in 0..16usize {
-            good[d] = number_in(&x, 20 + 4 * d);
-            let most = if d < self.device.slots {
-                self.device.blocks
-            } else {
-                0
-            };
-            if good[d] > most {
-                return Err(plain(18));
-            }
+        for (at, g) in (20..84usize).step_by(4).zip(good.iter_mut()) {
+            *g = number_in(&x, at);
         }
-        if used > self.device.cells.saturating_sub(1) || x != self.header(used, &good) {
-            return Err(plain(18));
+        if !self.may_be_good(&good) || used > self.last() || x != self.header(used, &good) {
+            return Err(Refusal::NotLaidOut);
         }
         self.used = used;
         self.good = good;
         let last = self.walk(used)?;
-        let (owing, _) = self.owing(used, None);
-        let room = used.saturating_add(owing.saturating_mul(self.rows.saturating_add(1)));
-        if room > self.device.cells.saturating_sub(1) {
-            return Err(plain(19));
+        if self.room(used, self.owing(used, None)) > self.last() {
+            return Err(Refusal::Overfull);
         }
         Ok(last)
     }
 
+    // No slot has more good stripes than there are, and none that is not there has any.
+    fn may_be_good(&self, good: &[usize; 16]) -> bool {
+        let slots = self.device.slots();
+        good.iter().take(slots).all(|g| *g <= self.device.blocks)
+            && good.iter().skip(slots).all(|g| *g == 0)
+    }
+
     fn walk(&self, used: usize) -> Result<Option<Record>, Refusal> {
-        let mut at = 1usize;
         let mut last = None;
-        for _ in 0..used {
-            if at > used {
-                break;
-            }
-            let Some(r) = self.record_at(at, used) else {
-                return Err(Refusal {
-                    number: 19,
-                    a: at,
-                    b: 0,
-                });
-            };
-            last = Some(r);
-            at = at.saturating_add(r.cells);
+        for record in self.records(used) {
+            last = Some(record?);
         }
         Ok(last)
     }
@@ -641,21 +653,21 @@ impl Reference {
         let Some(r) = last else {
             return Ok(());
         };
-        if r.write {
-            if self.is_good(r.stripe, r.column) {
-                let d = self.slot(r.stripe, r.column);
+        match r.kind {
+            Kind::Write(c) => {
                 let x = self.device.cell(r.at.saturating_add(2));
-                self.device.store_block(d, r.stripe, x)?;
+                self.store_column(r.stripe, c, x)
             }
-            return Ok(());
+            Kind::Fold => self.finish_fold(r.at, r.stripe),
         }
+    }
+
+    // Stores the checks that the fold record in cell `at` holds.
+    fn finish_fold(&mut self, at: usize, s: usize) -> Result<(), Refusal> {
+        let k = self.columns();
         for row in 0..self.rows {
-            let c = self.columns().saturating_add(row);
-            if self.is_good(r.stripe, c) {
-                let d = self.slot(r.stripe, c);
-                let x = self.device.cell(r.at.saturating_add(1).saturating_add(row));
-                self.device.store_block(d, r.stripe, x)?;
-            }
+            let x = self.device.cell(at.saturating_add(1).saturating_add(row));
+            self.store_column(s, k.saturating_add(row), x)?;
         }
         Ok(())
     }

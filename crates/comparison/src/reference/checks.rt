@@ -4,6 +4,7 @@ pub type Block = [u8; 512];
 pub const ZEROS: Block = [0; 512];
 
 // The product of two bytes modulo x^8 + x^4 + x^3 + x^2 + 1, the bits of `b` from the lowest on.
+// The recording program has it too: each program stands alone, and the reference shares no code.
 pub(crate) fn times(a: u8, b: u8) -> u8 {
     let mut sum = 0u8;
     let mut shifted = a;
@@ -22,32 +23,19 @@ pub(crate) fn times(a: u8, b: u8) -> u8 {
 
 // The byte whose product with `a` is 1; 0 where there is none.
 fn inverse(a: u8) -> u8 {
-    for b in 1..=255u8 {
-        if times(a, b) == 1 {
-            return b;
-        }
-    }
-    0
+    (1..=255u8).find(|b| times(a, *b) == 1).unwrap_or(0)
 }
 
 // What column `j` is multiplied by in check row `r`: 2 to the power r * j.
 pub(crate) fn weight(r: usize, j: usize) -> u8 {
-    let mut w = 1u8;
-    for _ in 0..r {
-        for _ in 0..j {
-            w = times(w, 2);
-        }
-    }
-    w
+    (0..r.saturating_mul(j)).fold(1u8, |w, _| times(w, 2))
 }
 
-// `sum` plus `w` times `x`, byte by byte.
-pub(crate) fn gathered(sum: Block, w: u8, x: Block) -> Block {
-    let mut out = sum;
-    for i in 0..512 {
-        out[i] = sum[i] ^ times(w, x[i]);
+// Adds `w` times `x` to a sum, byte by byte.
+pub(crate) fn gather(sum: &mut Block, w: u8, x: &Block) {
+    for (s, b) in sum.iter_mut().zip(x.iter()) {
+        *s = *s ^ times(w, *b);
     }
-    out
 }
 
 // The block at a place of a row, zeros where there is none.
@@ -56,17 +44,16 @@ pub(crate) fn column(row: &[Block], c: usize) -> Block {
 }
 
 fn put(row: &mut [Block], c: usize, x: Block) {
-    if c < row.len() {
-        row[c] = x;
+    if let Some(place) = row.get_mut(c) {
+        *place = x;
     }
 }
 
 // Check row `r` of the first `k` columns.
-pub(crate) fn check_of(row: &[Block], k: usize, r: usize) -> Block {
+fn check_of(row: &[Block], k: usize, r: usize) -> Block {
     let mut sum = ZEROS;
-    for j in 0..k {
-        let next = gathered(sum, weight(r, j), column(row, j));
-        sum = next;
+    for (j, x) in row.iter().take(k).enumerate() {
+        gather(&mut sum, weight(r, j), x);
     }
     sum
 }
@@ -80,126 +67,99 @@ fn is_lost(lost: &[bool], c: usize) -> bool {
 struct Equation {
     weights: [u8; 12],
     sum: Block,
+    // the column that it gives, once it is resolved
+    gives: Option<usize>,
 }
 
-fn weight_at(e: &Equation, j: usize) -> u8 {
-    e.weights.get(j).copied().unwrap_or(0)
-}
+// The equation that says nothing.
+const NOTHING: Equation = Equation {
+    weights: [0; 12],
+    sum: ZEROS,
+    gives: None,
+};
 
-// What check row `r` says of the lost data columns.
-fn equation_of(row: &[Block], lost: &[bool], k: usize, r: usize) -> Equation {
-    let mut e = Equation {
-        weights: [0; 12],
-        sum: column(row, k.saturating_add(r)),
-    };
-    for j in 0..12 {
-        if j < k && is_lost(lost, j) {
-            e.weights[j] = weight(r, j);
-        } else if j < k {
-            e.sum = gathered(e.sum, weight(r, j), column(row, j));
+impl Equation {
+    // What check row `r` says of the lost data columns.
+    fn of_check(row: &[Block], lost: &[bool], k: usize, r: usize) -> Equation {
+        let mut weights = [0u8; 12];
+        let mut sum = column(row, k.saturating_add(r));
+        for (j, w) in weights.iter_mut().take(k).enumerate() {
+            if is_lost(lost, j) {
+                *w = weight(r, j);
+            } else {
+                gather(&mut sum, weight(r, j), &column(row, j));
+            }
+        }
+        Equation {
+            weights,
+            sum,
+            gives: None,
         }
     }
-    e
-}
 
-// `e` plus `w` times `f`.
-fn combined(e: &Equation, w: u8, f: &Equation) -> Equation {
-    let mut out = Equation {
-        weights: e.weights,
-        sum: gathered(e.sum, w, f.sum),
-    };
-    for j in 0..12 {
-        out.weights[j] = e.weights[j] ^ times(w, f.weights[j]);
+    fn weight(&self, j: usize) -> u8 {
+        self.weights.get(j).copied().unwrap_or(0)
     }
-    out
-}
 
-// The equation with column `j` taken once.
-fn unit(e: &Equation, j: usize) -> Equation {
-    let w = inverse(weight_at(e, j));
-    let none = Equation {
-        weights: [0; 12],
-        sum: ZEROS,
-    };
-    combined(&none, w, e)
+    // Adds `w` times `other`.
+    fn add(&mut self, w: u8, other: &Equation) {
+        for (x, y) in self.weights.iter_mut().zip(other.weights.iter()) {
+            *x = *x ^ times(w, *y);
+        }
+        gather(&mut self.sum, w, &other.sum);
+    }
+
+    // Divided so that it names column `j` once, which it gives.
+    fn giving(&self, j: usize) -> Equation {
+        let mut e = NOTHING;
+        e.add(inverse(self.weight(j)), self);
+        e.gives = Some(j);
+        e
+    }
 }
 
 // Takes column `j` out of every equation but one that it names.
-fn eliminate(system: &mut [Equation], done: &mut [bool], j: usize) {
-    let mut pivot = system.len();
-    for (i, e) in system.iter().enumerate() {
-        if pivot == system.len() && !is_lost(done, i) && weight_at(e, j) != 0 {
-            pivot = i;
+fn eliminate(system: &mut [Equation], j: usize) {
+    let mut named = None;
+    for e in system.iter_mut() {
+        if named.is_none() && e.gives.is_none() && e.weight(j) != 0 {
+            *e = e.giving(j);
+            named = Some(*e);
         }
     }
-    if pivot >= system.len() || pivot >= done.len() {
+    let Some(pivot) = named else {
         return;
-    }
-    done[pivot] = true;
-    let p = unit(&system[pivot], j);
-    for i in 0..system.len() {
-        if i == pivot {
-            system[i] = p;
-        } else {
-            let e = system[i];
-            system[i] = combined(&e, weight_at(&e, j), &p);
+    };
+    for e in system.iter_mut() {
+        if e.gives != Some(j) {
+            let w = e.weight(j);
+            e.add(w, &pivot);
         }
     }
-}
-
-// How many data columns are lost.
-fn lost_data(lost: &[bool], k: usize) -> usize {
-    let mut n = 0usize;
-    for j in 0..k {
-        if is_lost(lost, j) {
-            n = n.saturating_add(1);
-        }
-    }
-    n
 }
 
 // The equations of the lowest kept check rows, as many as data columns are lost; the other entries say nothing.
 fn lowest_rows(row: &[Block], lost: &[bool], k: usize, m: usize) -> [Equation; 4] {
-    let mut system = [Equation {
-        weights: [0; 12],
-        sum: ZEROS,
-    }; 4];
-    let wanted = lost_data(lost, k);
-    let mut taken = 0usize;
-    for r in 0..m {
-        if taken < wanted && taken < 4 && !is_lost(lost, k.saturating_add(r)) {
-            system[taken] = equation_of(row, lost, k, r);
-            taken += 1;
-        }
+    let mut system = [NOTHING; 4];
+    let wanted = lost.iter().take(k).filter(|l| **l).count();
+    let kept = (0..m).filter(|r| !is_lost(lost, k.saturating_add(*r)));
+    for (e, r) in system.iter_mut().zip(kept).take(wanted) {
+        *e = Equation::of_check(row, lost, k, r);
     }
     system
 }
 
-// Takes the lost data columns out, one by one, so that each equation names one of them.
-fn resolve(system: &mut [Equation], done: &mut [bool], lost: &[bool], k: usize) {
-    for j in 0..k {
-        if is_lost(lost, j) {
-            eliminate(system, done, j);
-        }
-    }
-}
-
 // The column that the equations give, once they are resolved.
 fn resolved(system: &[Equation], j: usize) -> Block {
-    for e in system.iter() {
-        if weight_at(e, j) == 1 {
-            return e.sum;
-        }
+    match system.iter().find(|e| e.gives == Some(j)) {
+        Some(e) => e.sum,
+        None => ZEROS,
     }
-    ZEROS
 }
 
 // Fills the lost columns of a row in: data from the lowest kept check rows, then checks from the data.
 pub(crate) fn fill_lost(row: &mut [Block], lost: &[bool], k: usize, m: usize) {
-    let mut system = lowest_rows(row, lost, k, m);
-    let mut done = [false; 4];
-    resolve(&mut system, &mut done, lost, k);
-    put_data(row, lost, k, &system);
+    fill_data(row, lost, k, m);
     for r in 0..m {
         let c = k.saturating_add(r);
         if is_lost(lost, c) {
@@ -209,10 +169,13 @@ pub(crate) fn fill_lost(row: &mut [Block], lost: &[bool], k: usize, m: usize) {
     }
 }
 
-fn put_data(row: &mut [Block], lost: &[bool], k: usize, system: &[Equation]) {
-    for j in 0..k {
-        if is_lost(lost, j) {
-            put(row, j, resolved(system, j));
-        }
+// Takes the lost data columns out, one by one, so that each equation names one of them, and puts them into the row.
+fn fill_data(row: &mut [Block], lost: &[bool], k: usize, m: usize) {
+    let mut system = lowest_rows(row, lost, k, m);
+    for j in (0..k).filter(|j| is_lost(lost, *j)) {
+        eliminate(&mut system, j);
+    }
+    for j in (0..k).filter(|j| is_lost(lost, *j)) {
+        put(row, j, resolved(&system, j));
     }
 }

@@ -3,24 +3,34 @@ use crate::reference::checks::{Block, ZEROS};
 use std::alloc::{AllocError, Global};
 
 #[derive(Drop)]
-pub struct Device {
-    pub slots: usize,
-    pub blocks: usize,
-    pub cells: usize,
-    pub on: bool,
-    pub live: Vec<bool>,
-    // the disks, by slot and block
-    pub disks: Vec<Vec<Block>>,
-    pub log: Vec<Block>,
-    // stores that pass before one is cut, and the new bytes that the cut lets through
-    fuse: Option<(u32, u32)>,
+pub struct Disk {
+    pub live: bool,
+    pub blocks: Vec<Block>,
 }
 
-// The power failed at this place: slot and block, or 255 and cell.
+// The next `passes` stores pass, and of the one after them the cut lets `fresh` new bytes through.
 #[derive(Clone, Copy)]
-pub struct CutAt {
-    pub a: usize,
-    pub b: usize,
+struct Fuse {
+    passes: u32,
+    fresh: u32,
+}
+
+#[derive(Drop)]
+pub struct Device {
+    // the blocks on each disk
+    pub blocks: usize,
+    pub on: bool,
+    pub disks: Vec<Disk>,
+    pub log: Vec<Block>,
+    fuse: Option<Fuse>,
+}
+
+// Where the power failed.
+#[derive(Clone, Copy)]
+pub enum CutAt {
+    // slot and block
+    OfBlock(usize, usize),
+    OfCell(usize),
 }
 
 impl Device {
@@ -32,30 +42,37 @@ impl Device {
     ) -> Result<Device, AllocError> {
         let mut disks = Vec::new(heap);
         for _ in 0..slots {
-            let disk = vec![in heap; ZEROS; blocks]?;
-            disks.push(disk)?;
+            let blocks = vec![in heap; ZEROS; blocks]?;
+            disks.push(Disk { live: true, blocks })?;
         }
-        let live = vec![in heap; true; slots]?;
         let log = vec![in heap; ZEROS; cells]?;
         Ok(Device {
-            slots,
             blocks,
-            cells,
             on: true,
-            live,
             disks,
             log,
             fuse: None,
         })
     }
 
+    pub(crate) fn slots(&self) -> usize {
+        self.disks.len()
+    }
+
+    pub(crate) fn cells(&self) -> usize {
+        self.log.len()
+    }
+
     pub(crate) fn is_live(&self, d: usize) -> bool {
-        self.live.get(d).copied().unwrap_or(false)
+        match self.disks.get(d) {
+            Some(disk) => disk.live,
+            None => false,
+        }
     }
 
     pub(crate) fn block(&self, d: usize, b: usize) -> Block {
         match self.disks.get(d) {
-            Some(disk) => disk.get(b).copied().unwrap_or(ZEROS),
+            Some(disk) => disk.blocks.get(b).copied().unwrap_or(ZEROS),
             None => ZEROS,
         }
     }
@@ -64,9 +81,9 @@ impl Device {
         self.log.get(c).copied().unwrap_or(ZEROS)
     }
 
-    pub(crate) fn set_block(&mut self, d: usize, b: usize, x: Block) {
+    fn set_block(&mut self, d: usize, b: usize, x: Block) {
         if let Some(disk) = self.disks.get_mut(d) {
-            if let Some(place) = disk.get_mut(b) {
+            if let Some(place) = disk.blocks.get_mut(b) {
                 *place = x;
             }
         }
@@ -83,72 +100,63 @@ impl Device {
         if fresh > 512 {
             return false;
         }
-        self.fuse = Some((passes, fresh));
+        self.fuse = Some(Fuse { passes, fresh });
         true
     }
 
     // How many new bytes the next store lets through, if it is cut; one store fewer passes otherwise.
-    fn burn(&mut self) -> Option<u32> {
-        match self.fuse {
-            None => None,
-            Some((0, fresh)) => {
-                self.fuse = None;
-                self.on = false;
-                Some(fresh)
-            }
-            Some((passes, fresh)) => {
-                self.fuse = Some((passes - 1, fresh));
-                None
-            }
+    fn burn(&mut self) -> Option<usize> {
+        let Fuse { passes, fresh } = self.fuse?;
+        if passes > 0 {
+            self.fuse = Some(Fuse {
+                passes: passes - 1,
+                fresh,
+            });
+            return None;
         }
+        self.fuse = None;
+        self.on = false;
+        Some(fresh as usize)
     }
 
     pub(crate) fn store_block(&mut self, d: usize, b: usize, x: Block) -> Result<(), CutAt> {
-        match self.burn() {
-            None => {
-                self.set_block(d, b, x);
-                Ok(())
-            }
-            Some(fresh) => {
-                let mut mixed = self.block(d, b);
-                for i in 0..512usize {
-                    if (i as u32) < fresh {
-                        mixed[i] = x[i];
-                    }
-                }
-                self.set_block(d, b, mixed);
-                Err(CutAt { a: d, b })
-            }
+        let Some(fresh) = self.burn() else {
+            self.set_block(d, b, x);
+            return Ok(());
+        };
+        let mut mixed = self.block(d, b);
+        for (old, new) in mixed.iter_mut().zip(x.iter()).take(fresh) {
+            *old = *new;
         }
+        self.set_block(d, b, mixed);
+        Err(CutAt::OfBlock(d, b))
     }
 
+    // A cell is stored whole, or not at all.
     pub(crate) fn store_cell(&mut self, c: usize, x: Block) -> Result<(), CutAt> {
-        match self.burn() {
-            None => {
-                self.set_cell(c, x);
-                Ok(())
-            }
-            Some(fresh) => {
-                if fresh > 0 {
-                    self.set_cell(c, x);
-                }
-                Err(CutAt { a: 255, b: c })
-            }
+        let cut = self.burn();
+        if cut != Some(0) {
+            self.set_cell(c, x);
+        }
+        match cut {
+            None => Ok(()),
+            Some(_) => Err(CutAt::OfCell(c)),
         }
     }
 
-    pub(crate) fn set_life(&mut self, d: usize, alive: bool) {
-        if let Some(life) = self.live.get_mut(d) {
-            *life = alive;
+    pub(crate) fn pull(&mut self, d: usize) {
+        if let Some(disk) = self.disks.get_mut(d) {
+            disk.live = false;
         }
     }
 
     // A new disk: every byte is 229.
     pub(crate) fn fit(&mut self, d: usize) {
-        self.set_life(d, true);
-        let new = [229u8; 512];
-        for b in 0..self.blocks {
-            self.set_block(d, b, new);
+        if let Some(disk) = self.disks.get_mut(d) {
+            disk.live = true;
+            for block in disk.blocks.iter_mut() {
+                *block = [229; 512];
+            }
         }
     }
 }
