@@ -13,7 +13,7 @@ pub fn promise_stands()
 
 // The promise for one code.
 pub fn promise_of<C: Code>()
-    ensures { Promised C.Code.number C.Code.rows C.Code.check C.Code.solved }
+    ensures { Promised C.Code.NUMBER C.Code.ROWS C.Code.check C.Code.solved }
 {
 }
 
@@ -25,6 +25,6 @@ pub fn format_stands()
 
 // The same for one code.
 pub fn format_of<C: Code>()
-    ensures { FormatDone C.Code.number C.Code.rows C.Code.check C.Code.solved }
+    ensures { FormatDone C.Code.NUMBER C.Code.ROWS C.Code.check C.Code.solved }
 {
 }

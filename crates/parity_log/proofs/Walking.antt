@@ -343,8 +343,8 @@ module _ {C : Type 0} (code : CodeGhosts C) (q v : Bytes) (l log : Log) (i : ℕ
       met : Next (coding code log.columns) v log.used i x (Ok (Some r)) j → Met (coding code log.columns) v log.used i r.0 r.1 j
       met n =
           let w = head-within (coding code log.columns) v log.used i r.1 n.3 in
-          let c = cells-some code.rows r.1 in
-          record { here = n.0; low = n.1; head = n.3; on = n.4; within = omega (arith, n.4); more = omega (arith, n.4); two = λ m. let t = two-cells code.rows r.1 m in omega (arith, n.4) }
+          let c = cells-some code.ROWS r.1 in
+          record { here = n.0; low = n.1; head = n.3; on = n.4; within = omega (arith, n.4); more = omega (arith, n.4); two = λ m. let t = two-cells code.ROWS r.1 m in omega (arith, n.4) }
 
   pub next-none : (o : Option (ℕ × Head)) → Next (coding code l.columns) q l.used i x (Ok o) j → o ≡ None → Over (coding code log.columns) v log.used i x × (j ≡ i)
   next-none o h e = subst (λ (w : Option (ℕ × Head)). Next (coding code log.columns) v log.used i x (Ok w) j) e (moved o h)

@@ -7,8 +7,8 @@ use Rattle.model.specs.Coding.{Coding, byte_coding}
 module _ {C : Type 0} (code : CodeGhosts C) where
   -- with k data columns
   abbrev pub coding : ℕ → Coding (List ℕ)
-  coding k = byte_coding k code.number code.rows code.check code.solved
+  coding k = byte_coding k code.NUMBER code.ROWS code.check code.solved
 
   -- on a backplane: the slots that hold no check hold data
   abbrev pub coding_on : Bytes → Coding (List ℕ)
-  coding_on p = coding (p.slots - code.rows)
+  coding_on p = coding (p.slots - code.ROWS)

@@ -5,7 +5,7 @@ ghost use Rattle.parity_log.specs.Codes.{coding};
 ghost use Rattle.parity_log.specs.Walks.{head_within, resume_at, Next};
 
 use backplane::Backplane;
-use backplane::fault::BackplaneFault;
+use backplane::fault::{BackplaneFault, Place};
 use codes::Code;
 use layout::head::{Head, decode_head, record_cells};
 
@@ -32,7 +32,7 @@ impl Log {
     {
         let at = match parity {
             None => 1,
-            Some(cell) => cell as u64 + (1 + C::check_rows() as u64),
+            Some(cell) => cell as u64 + (1 + C::ROWS as u64),
         };
         Records { log: self, at }
     }
@@ -73,7 +73,7 @@ impl Records {
             return Ok(None);
         }
         let at = self.at as u32;
-        plane.read_cell(at, buf)?;
+        plane.read(Place::OfCell(at), buf)?;
         let stripes = plane.blocks();
         let Some(head) = self.log.head_in::<C>(stripes, at, buf) else {
             return Ok(None);
@@ -84,8 +84,8 @@ impl Records {
 }
 
 fn cells_of<C: Code>(head: Head) -> u64
-    ensures value { result ≡ record_cells C.Code.rows head }
+    ensures value { result ≡ record_cells C.Code.ROWS head }
     ensures few { result ≤ 5 }
 {
-    record_cells(C::check_rows() as u32, head)
+    record_cells(C::ROWS as u32, head)
 }

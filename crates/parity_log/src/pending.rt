@@ -10,7 +10,7 @@ ghost use Rattle.parity_log.specs.Walks.{parity_at, last_parity};
 
 use crate::log::Log;
 use backplane::Backplane;
-use backplane::fault::BackplaneFault;
+use backplane::fault::{BackplaneFault, Place};
 use codes::Code;
 use faults::fault::LogFault;
 use layout::head::Head;
@@ -26,7 +26,7 @@ impl Log {
         ensures value { result ≡ or_fault (fault_of (to_cell self.used buf.old) (B.Backplane.view plane.old)) (Ok (pending (coding C.Code self.columns) stripe (walk (coding C.Code self.columns) (B.Backplane.view plane.old) self.used).log)) }
         ensures kept { B.Backplane.view plane.new ≡ B.Backplane.view plane.old }
     {
-        plane.read_cell(self.used, buf)?;
+        plane.read(Place::OfCell(self.used), buf)?;
         let last = self.find_parity::<B, C>(plane, stripe, buf)?;
         let count = self.count_after::<B, C>(plane, stripe, last, buf)?;
         Ok(count)
@@ -42,7 +42,7 @@ impl Log {
         ensures value { result ≡ unless_fault (fault_of (to_cell self.used buf.old) (B.Backplane.view plane.old)) (Ok (last_parity (coding C.Code self.columns) (B.Backplane.view plane.old) self.used stripe)) }
         ensures kept { B.Backplane.view plane.new ≡ B.Backplane.view plane.old }
     {
-        plane.read_cell(self.used, buf)?;
+        plane.read(Place::OfCell(self.used), buf)?;
         self.find_parity::<B, C>(plane, stripe, buf)
     }
 

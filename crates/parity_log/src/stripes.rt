@@ -10,7 +10,7 @@ ghost use Rattle.parity_log.specs.Pending.{owing_after, room_fault, lowest_owing
 
 use crate::log::Log;
 use backplane::Backplane;
-use backplane::fault::BackplaneFault;
+use backplane::fault::{BackplaneFault, Place};
 use codes::Code;
 use faults::fault::LogFault;
 use layout::blocks::wipe;
@@ -62,7 +62,7 @@ impl Log {
         ensures marks { MatchResult result (λ _. MarksOwing (coding C.Code self.columns) (B.Backplane.view plane.old).blocks (with_write more (walk (coding C.Code self.columns) (B.Backplane.view plane.old) self.used).log) map.new) (λ _. map.new ≡ map.old) }
         ensures kept { B.Backplane.view plane.new ≡ B.Backplane.view plane.old }
     {
-        plane.read_cell(self.used, buf)?;
+        plane.read(Place::OfCell(self.used), buf)?;
         if map.len() as u128 * 8 < plane.blocks() as u128 {
             return Err(LogFault::AtCell(BackplaneFault::NoPlace));
         }

@@ -9,6 +9,7 @@ ghost use Rattle.parity_log.specs.Walks.{walk_end, LastAt};
 
 use crate::log::Log;
 use backplane::Backplane;
+use backplane::fault::Place;
 use codes::Code;
 use faults::fault::LogFault;
 
@@ -24,7 +25,7 @@ impl Log {
         ensures last { IfOk result (λ last. LastAt (coding C.Code self.columns) (B.Backplane.view plane.old) self.used last (walk (coding C.Code self.columns) (B.Backplane.view plane.old) self.used).log) }
         ensures kept { B.Backplane.view plane.new ≡ B.Backplane.view plane.old }
     {
-        plane.read_cell(self.used, buf)?;
+        plane.read(Place::OfCell(self.used), buf)?;
         self.walk_records::<B, C>(plane, buf)
     }
 

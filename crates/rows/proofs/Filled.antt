@@ -106,15 +106,15 @@ module _ {C : Type 0} (code : CodeGhosts C) (k : ℕ) (p : Bytes) (h : Header) (
   abbrev pub Fills : ℕ → Type 0
   Fills n = (a b d : List ℕ) (ls : List Bool) → n ≤ 16
       → ((c : ℕ) → c < n → column_in a c ≡ cond (flagged (lost_flags n p.live (good_of h) s) c) zeros (p.block (slot_of n s c) s))
-      → ((c : ℕ) → c < k + code.rows → column_in b c ≡ cond (flagged (lost_flags n p.live (good_of h) s) c) (column_in a c) (settled_with (coding code k) (log_of (coding code k) p h) s c (column_in a c)))
+      → ((c : ℕ) → c < k + code.ROWS → column_in b c ≡ cond (flagged (lost_flags n p.live (good_of h) s) c) (column_in a c) (settled_with (coding code k) (log_of (coding code k) p h) s c (column_in a c)))
       → ls ≡ take n (lost_flags n p.live (good_of h) s)
       → RowSolved code.solved k (length ls) ls b d
       → HoldsRow (coding code k) p h s d
 
-  fills : Fills (k + code.rows)
+  fills : Fills (k + code.ROWS)
   unfolding K
   fills a b d ls few read grown e sol c low =
-      let n = k + code.rows in
+      let n = k + code.ROWS in
       let flags : List Bool = lost_flags n p.live (good_of h) s in
       let long : length ls ≡ n = ap length (e ∙ flags_of n p.live (good_of h) s few) ∙ length-map-range_with_len (lost_at n p.live (good_of h) s) 0 n in
       sol.each c (omega arith)
@@ -126,7 +126,7 @@ module _ {C : Type 0} (code : CodeGhosts C) (k : ℕ) (p : Bytes) (h : Header) (
       ∙ collapse (flagged flags j) zeros (p.block (slot_of n s j) s) (settled_with K (log_of K p h) s j)
       ∙ ap (λ (t : Bool). cond t zeros (settled_with K (log_of K p h) s j (p.block (slot_of n s j) s))) (flag_is n p.live (good_of h) s few j l))
 
-  pub fills-by : (n : ℕ) → n ≡ k + code.rows → Fills n
+  pub fills-by : (n : ℕ) → n ≡ k + code.ROWS → Fills n
   fills-by n e = let P : ℕ → Type 0 = Fills in subst P (sym e) fills
 
 -- a flag for each place but one

@@ -58,10 +58,10 @@ module _ (f : ℕ → ℕ) (w k column b : ℕ) (inside : column < k) (fits : k 
       get_or-take w (map f (range_with_len 0 k) ++ replicate w 0) j 0 lt ∙ held_at j ∙ sym (set_is j))
 
 module _ {C : Type 0} (code : CodeGhosts C) (fill : (r : ℕ) (xs : List ℕ) → code.check r xs ≡ code.check r (filled xs))
-    (k r column : ℕ) (x : List ℕ) (inside : column < k) (fits : k ≤ 12) (row : r < code.rows) where
-  share-at : (i : ℕ) → share_of code.check code.rows r column (get_or x i 0) ≡ code.check r (across k (only (coding code k) column x) i)
+    (k r column : ℕ) (x : List ℕ) (inside : column < k) (fits : k ≤ 12) (row : r < code.ROWS) where
+  share-at : (i : ℕ) → share_of code.check code.ROWS r column (get_or x i 0) ≡ code.check r (across k (only (coding code k) column x) i)
   share-at i =
-      let low : ltb r code.rows ≡ true = grind (arith, nat_tests) in
+      let low : ltb r code.ROWS ≡ true = grind (arith, nat_tests) in
       let few : ltb column 12 ≡ true = grind (arith, nat_tests) in
       let at : ℕ → ℕ = λ j. get_or (cond (eqb j column) x zeros) i 0 in
       let here : at column ≡ get_or x i 0 = picked column (eqb column column) (grind (arith, nat_tests)) in
@@ -75,9 +75,9 @@ module _ {C : Type 0} (code : CodeGhosts C) (fill : (r : ℕ) (xs : List ℕ) �
       other j true e ne = absurd (ne (eqb-true j column e))
       other j false e ne = zeros-at i
 
-  pub share-bytes : length x ≡ 512 → share (coding code k) r column x ≡ map (share_of code.check code.rows r column) x
+  pub share-bytes : length x ≡ 512 → share (coding code k) r column x ≡ map (share_of code.check code.ROWS r column) x
   unfolding check_bytes
   share-bytes long =
       let f : ℕ → ℕ = λ i. code.check r (across k (only (coding code k) column x) i) in
-      sym (fill_by_all f (map (share_of code.check code.rows r column) x) 512 0 (length-map x (share_of code.check code.rows r column) ∙ long)
-      (λ i h. get_or-map (share_of code.check code.rows r column) x i 0 0 (omega arith) ∙ share-at i))
+      sym (fill_by_all f (map (share_of code.check code.ROWS r column) x) 512 0 (length-map x (share_of code.check code.ROWS r column) ∙ long)
+      (λ i h. get_or-map (share_of code.check code.ROWS r column) x i 0 0 (omega arith) ∙ share-at i))

@@ -12,7 +12,7 @@ ghost use Rattle.rows.specs.Shares.{column_below, shared_to, grow_step};
 
 use crate::shares::add_share;
 use backplane::Backplane;
-use backplane::fault::BackplaneFault;
+use backplane::fault::{BackplaneFault, Place};
 use codes::Code;
 use layout::head::Head;
 use parity_log::log::Log;
@@ -27,10 +27,10 @@ pub(crate) fn add_pending<B: Backplane, C: Code>(
     cell: &mut [u8],
 ) -> Result<(), BackplaneFault>
     requires fits { LogFits (B.Backplane.view plane.old) log }
-    requires room { 512 * (log.columns + C.Code.rows) ≤ length row.old }
+    requires room { 512 * (log.columns + C.Code.ROWS) ≤ length row.old }
     requires size { length cell.old ≡ 512 }
     ensures done { result ≡ Ok tt }
-    ensures each { (c : ℕ) → c < log.columns + C.Code.rows → column_in row.new c ≡ (if flagged leave.now c then column_in row.old c else settled_with (coding C.Code log.columns) (walk (coding C.Code log.columns) (B.Backplane.view plane.old) log.used).log stripe c (column_in row.old c)) }
+    ensures each { (c : ℕ) → c < log.columns + C.Code.ROWS → column_in row.new c ≡ (if flagged leave.now c then column_in row.old c else settled_with (coding C.Code log.columns) (walk (coding C.Code log.columns) (B.Backplane.view plane.old) log.used).log stripe c (column_in row.old c)) }
     ensures kept { B.Backplane.view plane.new ≡ B.Backplane.view plane.old }
 {
     let last = log.find_parity::<B, C>(plane, stripe, cell)?;
@@ -48,10 +48,10 @@ fn add_after<B: Backplane, C: Code>(
     cell: &mut [u8],
 ) -> Result<(), BackplaneFault>
     requires fits { LogFits (B.Backplane.view plane.old) log }
-    requires room { 512 * (log.columns + C.Code.rows) ≤ length row.old }
+    requires room { 512 * (log.columns + C.Code.ROWS) ≤ length row.old }
     requires size { length cell.old ≡ 512 }
     ensures done { result ≡ Ok tt }
-    ensures each { (c : ℕ) → c < log.columns + C.Code.rows → column_in row.new c ≡ rest (coding C.Code log.columns) (grow_step (coding C.Code log.columns) (B.Backplane.view plane.old) (flagged leave.now) stripe c) (B.Backplane.view plane.old) log.used (resume_at (coding C.Code log.columns) last) (column_in row.old c) }
+    ensures each { (c : ℕ) → c < log.columns + C.Code.ROWS → column_in row.new c ≡ rest (coding C.Code log.columns) (grow_step (coding C.Code log.columns) (B.Backplane.view plane.old) (flagged leave.now) stripe c) (B.Backplane.view plane.old) log.used (resume_at (coding C.Code log.columns) last) (column_in row.old c) }
     ensures kept { B.Backplane.view plane.new ≡ B.Backplane.view plane.old }
 {
     let mut records = log.records_after::<C>(last);
@@ -75,15 +75,15 @@ fn add_record<B: Backplane, C: Code>(
     requires fits { LogFits (B.Backplane.view plane.old) log }
     requires within { at + 1 ≤ log.used }
     requires column { column_below log.columns head }
-    requires room { 512 * (log.columns + C.Code.rows) ≤ length row.old }
+    requires room { 512 * (log.columns + C.Code.ROWS) ≤ length row.old }
     requires size { length cell.old ≡ 512 }
     ensures done { result ≡ Ok tt }
-    ensures each { (c : ℕ) → c < log.columns + C.Code.rows → column_in row.new c ≡ grow_step (coding C.Code log.columns) (B.Backplane.view plane.old) (flagged leave.now) stripe c at head (column_in row.old c) }
+    ensures each { (c : ℕ) → c < log.columns + C.Code.ROWS → column_in row.new c ≡ grow_step (coding C.Code log.columns) (B.Backplane.view plane.old) (flagged leave.now) stripe c at head (column_in row.old c) }
     ensures kept { B.Backplane.view plane.new ≡ B.Backplane.view plane.old }
 {
     if let Head::OfWrite(of, column) = head {
         if stripe == of {
-            plane.read_cell(at + 1, cell)?;
+            plane.read(Place::OfCell(at + 1), cell)?;
             add_shares::<C>(log.columns, column, cell, leave, row);
         }
     }
@@ -95,10 +95,10 @@ fn add_shares<C: Code>(k: u8, column: u8, delta: &[u8], leave: &[bool; 16], row:
     requires few { k ≤ 12 }
     requires column { column < k }
     requires delta { length delta.now ≡ 512 }
-    requires room { 512 * (k + C.Code.rows) ≤ length row.old }
-    ensures { (c : ℕ) → c < k + C.Code.rows → column_in row.new c ≡ shared_to (coding C.Code k) (flagged leave.now) column delta.now c (column_in row.old c) }
+    requires room { 512 * (k + C.Code.ROWS) ≤ length row.old }
+    ensures { (c : ℕ) → c < k + C.Code.ROWS → column_in row.new c ≡ shared_to (coding C.Code k) (flagged leave.now) column delta.now c (column_in row.old c) }
 {
-    for r in 0..C::check_rows() {
+    for r in 0..C::ROWS {
         if !leave[k as usize + r] {
             add_to_column::<C>(k, r, column, delta, row);
         }
@@ -109,7 +109,7 @@ fn add_shares<C: Code>(k: u8, column: u8, delta: &[u8], leave: &[bool; 16], row:
 fn add_to_column<C: Code>(k: u8, r: usize, column: u8, delta: &[u8], row: &mut [u8])
     requires few { k ≤ 12 }
     requires column { column < k }
-    requires check { r < C.Code.rows }
+    requires check { r < C.Code.ROWS }
     requires delta { length delta.now ≡ 512 }
     requires room { 512 * (k + r) + 512 ≤ length row.old }
     ensures { ColumnPut (k + r) (sum_of (column_in row.old (k + r)) (share (coding C.Code k) r column delta.now)) row.old row.new }

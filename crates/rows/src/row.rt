@@ -15,7 +15,7 @@ use crate::pending::add_pending;
 use crate::solving::solve_row;
 use crate::stripe::Stripe;
 use backplane::Backplane;
-use backplane::fault::BackplaneFault;
+use backplane::fault::{BackplaneFault, Place};
 use codes::Code;
 use layout::blocks::wipe;
 use layout::header::Header;
@@ -82,18 +82,12 @@ pub fn add_pending_to_column<B: Backplane, C: Code>(
 // The shape of an array with this code, if the power is on, the sizes are within the limits, and the header fits them.
 fn open_shape<B: Backplane, C: Code>(plane: &B, header: &Header) -> Option<Shape>
     ensures value { result ≡ open_shape (coding_on C.Code (B.Backplane.view plane.now)) (B.Backplane.view plane.now) header.now }
-    ensures fits { IfSome result (λ sh. OpenFits C.Code.rows (B.Backplane.view plane.now) header.now sh) }
+    ensures fits { IfSome result (λ sh. OpenFits C.Code.ROWS (B.Backplane.view plane.now) header.now sh) }
 {
     if !plane.power() {
         return None;
     }
-    let shape = Shape::of(
-        C::code_number(),
-        C::check_rows() as u32,
-        plane.slots(),
-        plane.blocks(),
-        plane.cells(),
-    )?;
+    let shape = Shape::of(C::NUMBER, C::ROWS as u32, plane.sizes())?;
     if header.fits(&shape) {
         Some(shape)
     } else {
@@ -110,7 +104,7 @@ fn row_shape<B: Backplane, C: Code>(
     cell: usize,
 ) -> Option<Shape>
     ensures value { is_some result ≡ has_row (coding_on C.Code (B.Backplane.view plane.now)) (B.Backplane.view plane.now) header.now stripe bytes cell }
-    ensures fits { IfSome result (λ sh. OpenFits C.Code.rows (B.Backplane.view plane.now) header.now sh × (stripe < (B.Backplane.view plane.now).blocks) × (missing sh.slots (B.Backplane.view plane.now).live (good_of header.now) stripe ≤ C.Code.rows) × (8192 ≤ bytes) × (cell ≡ 512)) }
+    ensures fits { IfSome result (λ sh. OpenFits C.Code.ROWS (B.Backplane.view plane.now) header.now sh × (stripe < (B.Backplane.view plane.now).blocks) × (missing sh.slots (B.Backplane.view plane.now).live (good_of header.now) stripe ≤ C.Code.ROWS) × (8192 ≤ bytes) × (cell ≡ 512)) }
 {
     let shape = open_shape::<B, C>(plane, header)?;
     let row = Stripe {
@@ -133,9 +127,9 @@ fn has_room(bytes: usize, cell: usize) -> bool
 
 // Whether no more columns of a stripe are lost than there are checks.
 fn is_repairable<B: Backplane, C: Code>(plane: &B, stripe: Stripe) -> bool
-    ensures { result ≡ not (nat_lt C.Code.rows (missing stripe.entry.columns (B.Backplane.view plane.now).live (good_of stripe.entry.header.now) stripe.entry.number)) }
+    ensures { result ≡ not (nat_lt C.Code.ROWS (missing stripe.entry.columns (B.Backplane.view plane.now).live (good_of stripe.entry.header.now) stripe.entry.number)) }
 {
-    stripe.count_lost(plane) as usize <= C::check_rows()
+    stripe.count_lost(plane) as usize <= C::ROWS
 }
 
 // Reads the columns of a stripe that is not past repair, adds the pending shares, and solves the lost columns.
@@ -146,10 +140,10 @@ fn fill_row<B: Backplane, C: Code>(
     row: &mut [u8],
     cell: &mut [u8],
 ) -> Result<(), BackplaneFault>
-    requires fits { OpenFits C.Code.rows (B.Backplane.view plane.old) stripe.header.now shape }
+    requires fits { OpenFits C.Code.ROWS (B.Backplane.view plane.old) stripe.header.now shape }
     requires columns { stripe.columns ≡ shape.slots }
     requires stripe { stripe.number < (B.Backplane.view plane.old).blocks }
-    requires repairable { missing shape.slots (B.Backplane.view plane.old).live (good_of stripe.header.now) stripe.number ≤ C.Code.rows }
+    requires repairable { missing shape.slots (B.Backplane.view plane.old).live (good_of stripe.header.now) stripe.number ≤ C.Code.ROWS }
     requires room { 8192 ≤ length row.old }
     requires size { length cell.old ≡ 512 }
     ensures done { result ≡ Ok tt }
@@ -223,7 +217,7 @@ fn read_column<B: Backplane>(
 {
     let (slot, block) = place(n, stripe, column);
     let at = 512 * column as usize;
-    plane.read_block(slot, block, &mut row[at..at + 512])?;
+    plane.read(Place::OfBlock(slot, block), &mut row[at..at + 512])?;
     Ok(())
 }
 
@@ -237,7 +231,7 @@ fn add_pending_only<B: Backplane, C: Code>(
     row: &mut [u8],
     cell: &mut [u8],
 ) -> Result<(), BackplaneFault>
-    requires fits { OpenFits C.Code.rows (B.Backplane.view plane.old) header.now shape }
+    requires fits { OpenFits C.Code.ROWS (B.Backplane.view plane.old) header.now shape }
     requires room { 8192 ≤ length row.old }
     requires size { length cell.old ≡ 512 }
     ensures done { result ≡ Ok tt }

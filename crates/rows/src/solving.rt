@@ -13,7 +13,7 @@ const COLUMNS: usize = 16;
 
 // Solves the lost columns of the row, or changes nothing: where more columns are lost than the code has checks, or the sizes do not fit.
 pub fn solve_row<C: Code>(k: usize, row: &mut [u8], lost: &[bool]) -> Result<(), RowError>
-    ensures answer { result ≡ (if row_solvable C.Code.rows k lost.now (length row.old) then Ok tt else Err NoRow) }
+    ensures answer { result ≡ (if row_solvable C.Code.ROWS k lost.now (length row.old) then Ok tt else Err NoRow) }
     ensures solved { OnOk result (RowSolved C.Code.solved k (length lost.now) lost.now row.old row.new) }
     ensures refused { OnErr result (row.new ≡ row.old) }
 {
@@ -32,19 +32,19 @@ fn has_room(columns: usize, bytes: usize) -> bool
 
 // Whether the code solves rows with these columns lost: it does so by a row of zeros if by any.
 fn is_solvable<C: Code>(k: usize, lost: &[bool]) -> bool
-    ensures { result ≡ solvable C.Code.rows k (length lost.now) lost.now }
+    ensures { result ≡ solvable C.Code.ROWS k (length lost.now) lost.now }
 {
     let n = lost.len();
     if n > COLUMNS {
         return false;
     }
     let mut zeros = [0u8; COLUMNS];
-    C::solve(k, &mut zeros[0..n], lost)
+    C::solve(k, &mut zeros[0..n], lost).is_ok()
 }
 
 // Solves the row at each place of its blocks.
 fn solve_places<C: Code>(k: usize, row: &mut [u8], lost: &[bool])
-    requires solvable { solvable C.Code.rows k (length lost.now) lost.now ≡ true }
+    requires solvable { solvable C.Code.ROWS k (length lost.now) lost.now ≡ true }
     requires room { 512 * length lost.now ≤ length row.old }
     ensures { RowSolved C.Code.solved k (length lost.now) lost.now row.old row.new }
 {
@@ -54,7 +54,7 @@ fn solve_places<C: Code>(k: usize, row: &mut [u8], lost: &[bool])
 }
 
 fn solve_place<C: Code>(k: usize, row: &mut [u8], lost: &[bool], i: usize)
-    requires solvable { solvable C.Code.rows k (length lost.now) lost.now ≡ true }
+    requires solvable { solvable C.Code.ROWS k (length lost.now) lost.now ≡ true }
     requires room { 512 * length lost.now ≤ length row.old }
     requires place { i < 512 }
     ensures { PlacePut (length lost.now) i (C.Code.solved k (across (length lost.now) (column_in row.old) i) lost.now) row.old row.new }

@@ -6,5 +6,5 @@ pub returns : goal.returns
 returns g c =
     let K = g.C.Code in
     let M = g.met.C.Code in
-    let W : ByteLaws K.number K.rows K.check K.solved = record { named = M.named; few = M.few; low = M.low; zero = M.zero; additive = M.additive; apart = M.apart; solves = M.solves } in
-    promise K.number K.rows K.check K.solved W
+    let W : ByteLaws K.NUMBER K.ROWS K.check K.solved = record { named = M.named; few = M.few; low = M.low; zero = M.zero; additive = M.additive; apart = M.apart; solves = M.solves } in
+    promise K.NUMBER K.ROWS K.check K.solved W

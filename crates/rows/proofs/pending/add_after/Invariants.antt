@@ -13,7 +13,7 @@ invariant-loop-at g l =
     record {
       view : g.B.Backplane.view l.plane ≡ v;
       log : l.records.log ≡ l.log;
-      grown : (c : ℕ) → c < l.log.columns + g.C.Code.rows → rest K (grow_step K v (flagged l.leave) l.stripe c) v u l.records.at (column_in l.row c) ≡ rest K (grow_step K v (flagged l.leave) l.stripe c) v u (resume_at K l.fn.last) (column_in l.fn.row c);
+      grown : (c : ℕ) → c < l.log.columns + g.C.Code.ROWS → rest K (grow_step K v (flagged l.leave) l.stripe c) v u l.records.at (column_in l.row c) ≡ rest K (grow_step K v (flagged l.leave) l.stripe c) v u (resume_at K l.fn.last) (column_in l.fn.row c);
     }
 
 abbrev pub decreases-loop-at : goal.decreases-loop-at

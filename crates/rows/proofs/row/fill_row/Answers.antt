@@ -49,7 +49,7 @@ returns-clause-row g c =
     let ls : List Bool = take (n - 0) lost in
     let e : ls ≡ take n flags = ap (λ (m : ℕ). take m lost) (omega arith) ∙ ap (take n) e0 in
     let room : 512 * n ≤ length b = omega (arith, c.requires.room, few, c.add_pending.auto.row, c.read_columns.auto.row) in
-    let can = row-solvable n p.live (good_of hd) s few g.C.Code.rows k (length b) ls e f.low f.high f.width c.requires.repairable room in
+    let can = row-solvable n p.live (good_of hd) s few g.C.Code.ROWS k (length b) ls e f.low f.high f.width c.requires.repairable room in
     fills-by g.C.Code k p hd s n f.width a b d ls few
     (λ j l. r1.each j l ∙ ap (λ (z : List Bool). cond (flagged z j) zeros (p.block (slot_of n s j) s)) e0)
     (λ j l. r2.each j l

@@ -12,5 +12,5 @@ returns-clause-column g c =
     let e : w ≡ 512 = omega arith in
     let n : length (take w (drop (512 * at) row)) ≡ 512 = ap length (column-is row at w e) ∙ full-column row at c.requires.room in
     let here = (c.place-slot.ensures.slot (omega (arith, c.requires.column))).0 in
-    put_as at c.read_block.new.into _ row _ (c.in_ok-read_block.ensures.2 ∙ ap₂ p.block here (ap (λ (r : ℕ × ℕ). r.1) c.place-slot.ensures.value))
-    (put-column row c.read_block.new.into at w e c.requires.room (c.read_block.auto.into ∙ n))
+    put_as at c.read.new.into _ row _ (c.in_ok-read.ensures.2 ∙ ap₂ p.block here (ap (λ (r : ℕ × ℕ). r.1) c.place-slot.ensures.value))
+    (put-column row c.read.new.into at w e c.requires.room (c.read.auto.into ∙ n))

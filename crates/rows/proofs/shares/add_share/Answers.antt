@@ -11,7 +11,7 @@ loop-i-preserved g c =
     let t = c.args.target.now in
     let b = c.args.block.now in
     let i = c.loop-i.i in
-    let sh : ℕ → ℕ = share_of g.C.Code.check g.C.Code.rows c.args.r c.args.column in
+    let sh : ℕ → ℕ = share_of g.C.Code.check g.C.Code.ROWS c.args.r c.args.column in
     let long : length (map sh b) ≡ length b = length-map b sh in
     let low : i < length b = omega arith in
     let a = summed_to-at t (map sh b) t i (omega arith) (omega arith) (omega arith) in
@@ -24,7 +24,7 @@ pub returns : goal.returns
 returns g c =
     let t = c.args.target.now in
     let b = c.args.block.now in
-    let sh : ℕ → ℕ = share_of g.C.Code.check g.C.Code.rows c.args.r c.args.column in
+    let sh : ℕ → ℕ = share_of g.C.Code.check g.C.Code.ROWS c.args.r c.args.column in
     let long : length (map sh b) ≡ length b = length-map b sh in
     let n : c.loop-i.i ≡ min (length t) (length b) = omega arith in
     record {
