@@ -3,7 +3,17 @@
 
 pub mod array;
 pub mod clear;
+mod finish;
+pub mod fold;
 pub mod format;
+mod parity;
 mod places;
+pub mod read;
+pub mod rebuild;
+mod record;
+mod records;
+mod row;
 pub mod slots;
+pub mod start;
 pub mod state;
+pub mod write;

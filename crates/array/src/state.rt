@@ -1,5 +1,5 @@
 // Whether the array is started, and the store of its header.
-ghost use Rattle.std.specs.Prelude.{◌≡◌, ◌<◌, ◌≤◌, true, false, [], ◌∷◌, length, is_some, IfSome, if◌then◌else◌, Some, None, MatchOption, OnSome, nat_lt};
+ghost use Rattle.std.specs.Prelude.{◌≡◌, ◌-◌, ◌*◌, ◌<◌, ◌≤◌, true, false, [], ◌∷◌, length, is_some, IfSome, if◌then◌else◌, Some, None, MatchOption, OnSome, nat_lt};
 ghost use Rattle.model.specs.Rules.{to_header};
 ghost use Rattle.array.specs.Calls.{view_of, coding_of, shape_for, limited, opened_of, Performed, held_after};
 ghost use Rattle.array.specs.Ready.{Sized, Ready};
@@ -65,6 +65,23 @@ impl<B: Backplane, C: Code> Array<B, C> {
         ensures { result ≡ nat_lt slot (view_of B.Backplane C.Code self.now).slots }
     {
         slot < self.backplane.slots()
+    }
+
+    // Whether there is a block of this number: each stripe holds one for each slot beyond the checks.
+    pub(crate) fn has_block(&self, block: u32) -> bool
+        ensures { result ≡ nat_lt block ((view_of B.Backplane C.Code self.now).blocks * ((view_of B.Backplane C.Code self.now).slots - C.Code.rows)) }
+    {
+        let columns = self
+            .backplane
+            .slots()
+            .saturating_sub(C::check_rows() as u32);
+        (block as u64) < self.backplane.blocks() as u64 * columns as u64
+    }
+
+    pub(crate) fn has_stripe(&self, stripe: u32) -> bool
+        ensures { result ≡ nat_lt stripe (view_of B.Backplane C.Code self.now).blocks }
+    {
+        stripe < self.backplane.blocks()
     }
 
     // Stores a header in cell 0; the array then holds it, and none after a cut.

@@ -184,7 +184,7 @@ fn read_array<B: Backplane, C: Code>(
 ) -> Said {
     let mut into = [0u8; 513];
     let length = length.min(513);
-    match reading::read::read(array, block, &mut into[0..length], work) {
+    match array.read(block, &mut into[0..length], work) {
         Ok(()) => done(0, front(&into)),
         Err(e) => said_by_array(e),
     }
@@ -201,19 +201,18 @@ fn front(x: &[u8; 513]) -> Block {
 
 fn on_array<B: Backplane, C: Code>(array: &mut Array<B, C>, deed: Deed, work: &mut [u8]) -> Said {
     match deed {
-        Deed::Write(block, seed, length) => unit_said(writing::write::write(
-            array,
+        Deed::Write(block, seed, length) => unit_said(array.write(
             block,
             &filled(seed)[0..length.min(513)],
             work,
         )),
         Deed::Read(block, length) => read_array(array, block, length, work),
-        Deed::Fold(stripe) => number_said(folding::fold::fold(array, stripe, work)),
+        Deed::Fold(stripe) => number_said(array.fold(stripe, work)),
         Deed::Clear => unit_said(array.clear(work)),
         Deed::Pull(slot) => unit_said(array.pull(slot)),
         Deed::Fit(slot) => unit_said(array.fit(slot, work)),
-        Deed::Rebuild(slot) => number_said(reading::rebuild::rebuild(array, slot, work)),
-        Deed::Start => unit_said(starting::start::start(array, work)),
+        Deed::Rebuild(slot) => number_said(array.rebuild(slot, work)),
+        Deed::Start => unit_said(array.start(work)),
         Deed::Format => unit_said(array.format(work)),
     }
 }

@@ -21,7 +21,6 @@ mod tests {
     use layout::stripes::{locate, place};
     use memory::Memory;
     use std::test::Fail;
-    use writing::write::write;
 
     #[test]
     fn bytes_as_field_elements(rt: HostRuntime) {
@@ -77,15 +76,15 @@ mod tests {
         let mut array = Array::new(Memory::new(bytes.as_mut_slice(), 4, 8, 24), SingleParity);
         assert_eq!(rt; told(array.format(work.as_mut_slice())), (0, 0));
         assert_eq!(rt;
-            told(write(&mut array, 23, &[1; 512], work.as_mut_slice())),
+            told(array.write(23, &[1; 512], work.as_mut_slice())),
             (0, 0)
         );
         assert_eq!(rt;
-            told(write(&mut array, 24, &[1; 512], work.as_mut_slice())),
+            told(array.write(24, &[1; 512], work.as_mut_slice())),
             (3, 0)
         );
         assert_eq!(rt;
-            told(write(&mut array, 0, &[1; 511], work.as_mut_slice())),
+            told(array.write(0, &[1; 511], work.as_mut_slice())),
             (1, 0)
         );
         Ok(())
@@ -99,11 +98,11 @@ mod tests {
         let mut array = Array::new(Memory::new(bytes.as_mut_slice(), 4, 8, 8), SingleParity);
         assert_eq!(rt; told(array.format(work.as_mut_slice())), (0, 0));
         assert_eq!(rt;
-            told(write(&mut array, 0, &[1; 512], work.as_mut_slice())),
+            told(array.write(0, &[1; 512], work.as_mut_slice())),
             (0, 0)
         );
         assert_eq!(rt;
-            told(write(&mut array, 1, &[1; 512], work.as_mut_slice())),
+            told(array.write(1, &[1; 512], work.as_mut_slice())),
             (16, 4)
         );
         Ok(())
@@ -117,15 +116,15 @@ mod tests {
         let mut array = Array::new(Memory::new(bytes.as_mut_slice(), 4, 8, 9), SingleParity);
         assert_eq!(rt; told(array.format(work.as_mut_slice())), (0, 0));
         assert_eq!(rt;
-            told(write(&mut array, 0, &[1; 512], work.as_mut_slice())),
+            told(array.write(0, &[1; 512], work.as_mut_slice())),
             (0, 0)
         );
         assert_eq!(rt;
-            told(write(&mut array, 3, &[1; 512], work.as_mut_slice())),
+            told(array.write(3, &[1; 512], work.as_mut_slice())),
             (16, 5)
         );
         assert_eq!(rt;
-            told(write(&mut array, 1, &[1; 512], work.as_mut_slice())),
+            told(array.write(1, &[1; 512], work.as_mut_slice())),
             (0, 0)
         );
         Ok(())

@@ -15,12 +15,7 @@ use backplane::Backplane;
 use backplane::bytes::below_256;
 use codes::Code;
 use faults::fault::ArrayFault;
-use folding::fold::fold;
-use reading::read::read;
-use reading::rebuild::rebuild;
-use starting::start::start;
 use std::alloc::{AllocError, AllocFailed, Global};
-use writing::write::write;
 
 // Formats the array, makes the calls one after the other, and gives back every answer, with every block read.
 pub fn run<B: Backplane, C: Code>(
@@ -91,10 +86,10 @@ fn make_one<B: Backplane, C: Code>(array: &mut Array<B, C>, call: Call, work: &m
         Call::Clear => done(array.clear(work)),
         Call::Pull(slot) => done(array.pull(slot)),
         Call::Fit(slot) => done(array.fit(slot, work)),
-        Call::Rebuild(slot) => counted(rebuild(array, slot, work)),
-        Call::Start => done(start(array, work)),
+        Call::Rebuild(slot) => counted(array.rebuild(slot, work)),
+        Call::Start => done(array.start(work)),
         Call::Write(number, bytes) => write_block(array, number, bytes, work),
-        Call::Fold(stripe) => counted(fold(array, stripe, work)),
+        Call::Fold(stripe) => counted(array.fold(stripe, work)),
     }
 }
 
@@ -110,7 +105,7 @@ fn write_block<B: Backplane, C: Code>(
     ensures area { work.new ≡ wiped work.old }
 {
     below_256(bytes);
-    done(write(array, number, bytes, work))
+    done(array.write(number, bytes, work))
 }
 
 // The block of this number, inside the answer.
@@ -123,7 +118,7 @@ fn read_block<B: Backplane, C: Code>(
     ensures area { work.new ≡ wiped work.old }
 {
     let mut block = [0u8; 512];
-    match read(array, number, &mut block, work) {
+    match array.read(number, &mut block, work) {
         Ok(()) => Answer::Block(block),
         Err(f) => Answer::Refused(f),
     }
