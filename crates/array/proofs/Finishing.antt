@@ -1,5 +1,6 @@
 -- The stores that finish a record.
-use Rattle.std.proofs.Common.{◌≡◌, ℕ, zero, suc, ◌+◌, ◌<◌, ◌≤◌, Bool, true, false, cond, ◌&&◌, ltb, leb, List, [], ◌∷◌, ◌++◌, get_or, Some, None, Option, sym, refl, ap, ◌∙◌, subst, ap₂, add-one, arith}
+use Rattle.std.proofs.Common.{◌≡◌, ℕ, zero, suc, ◌+◌, ◌-◌, ◌<◌, ◌≤◌, Bool, true, false, cond, ◌&&◌, ltb, leb, List, [], ◌∷◌, ◌++◌, get_or, Some, None, Ok, Err, Option, Result, sym, refl, ap, ◌∙◌, subst, add-one, arith}
+use mathlib.Core.Path.{subst⁻¹}
 use Rattle.std.proofs.lemmas.Bool.{cond-true, lt-ltb, ltb-true, leb-true}
 use Rattle.backplane.specs.Plane.{Store, to_block}
 use Rattle.backplane.specs.Meaning.{Bytes}
@@ -16,41 +17,65 @@ use Rattle.model.specs.Log.{Rec, or_else, record_from, record_at}
 use Rattle.model.specs.Row.{good_at}
 use Rattle.model.specs.Rules.{good_of, is_good, log_of, to_checks, finish, finish_last}
 use Rattle.parity_log.specs.Walks.{LastAt}
+use Rattle.faults.specs.declared.fault.ArrayFault.{ArrayFault}
+use Rattle.array.specs.Calls.{Performed}
+use Rattle.array.specs.Ready.{Kept}
+use Rattle.array.proofs.Steps.{performed-append, performed-cut, stored-kept, kept-after}
 use Rattle.array.specs.Starts.{to_good, to_good_checks, finish_by, Placed, ToFinish}
 
--- a good column is one by the lives and the header
-pub good-same : (n : ℕ) (p q : Bytes) (h : Header) (s c i : ℕ) → q.live ≡ p.live → q.cell ≡ p.cell → to_good n q h s c (q.cell i) ≡ to_good n p h s c (p.cell i)
-good-same n p q h s c i e f =
-    ap₂ (λ (live : ℕ → Bool) (cell : ℕ → List ℕ). cond (good_at n live (good_of h) s c) (to_block (slot_of n s c) s (cell i) ∷ []) []) e f
-
 -- a store in a block leaves the cells
-pub good-cells : (b : Bool) (d s : ℕ) (x : List ℕ) (p : Bytes) → (stored_all (cond b (to_block d s x ∷ []) []) p).cell ≡ p.cell
-good-cells true d s x p = refl
-good-cells false d s x p = refl
+pub good-cells : (n : ℕ) (live : ℕ → Bool) (h : Header) (s c : ℕ) (x : List ℕ) (p : Bytes) → (stored_all (to_good n live h s c x) p).cell ≡ p.cell
+good-cells n live h s c x p = go (good_at n live (good_of h) s c)
+  where
+    go : (b : Bool) → (stored_all (cond b (to_block (slot_of n s c) s x ∷ []) []) p).cell ≡ p.cell
+    go true = refl
+    go false = refl
 
--- the check blocks of a parity record are those that the rules store
+-- one check block more, in a loop over the check rows: it is done, or cut
+module _ (n k : ℕ) (h : Header) (s : ℕ) (f : ℕ → List ℕ) (p now then : Bytes) (m r : ℕ) where
+  abbrev checks_of : ℕ → ℕ → List (Store (List ℕ))
+  checks_of = to_good_checks n k p.live h s f
+
+  abbrev check_at : (ℕ → Bool) → List (Store (List ℕ))
+  check_at live = to_good n live h s (k + r) (f r)
+
+  pub good-done : r < m → Kept p now → Performed (check_at now.live) now (Ok tt) then
+      → Kept p then × ((q : Bytes) (x : Result (Unit {0}) ArrayFault) → Performed (checks_of (m - (r + 1)) (r + 1)) then x q → Performed (checks_of (m - r) r) now x q)
+  good-done l k0 one =
+      let e : m - r ≡ suc (m - (r + 1)) = omega arith in
+      let here : then ≡ stored_all (check_at p.live) now = subst (λ (live : ℕ → Bool). then ≡ stored_all (check_at live) now) k0.live one in (
+        kept-after p now then k0 (stored-kept (check_at now.live) now then one),
+        λ q x t. subst⁻¹ (λ (i : ℕ). Performed (checks_of i r) now x q) e (performed-append (check_at p.live) (checks_of (m - (r + 1)) (r + 1)) now then q x here t),
+      )
+
+  pub good-cut : (g : ArrayFault) → r < m → Kept p now → Performed (check_at now.live) now (Err g) then → Performed (checks_of (m - r) r) now (Err g) then
+  good-cut g l k0 cut =
+      let e : m - r ≡ suc (m - (r + 1)) = omega arith in
+      let here = subst (λ (live : ℕ → Bool). Performed (check_at live) now (Err g) then) k0.live cut in
+      subst⁻¹ (λ (i : ℕ). Performed (checks_of i r) now (Err g) then) e (performed-cut (check_at p.live) (checks_of (m - (r + 1)) (r + 1)) now then g here)
+
 first_of : {A : Type 0} (b : Bool) (x : A) (xs : List A) → cond b (x ∷ xs) xs ≡ cond b (x ∷ []) [] ++ xs
 first_of true x xs = refl
 first_of false x xs = refl
 
 module _ (K : Coding (List ℕ)) (p : Bytes) (h : Header) where
-  checks-are : (s i m r : ℕ) → r + m ≡ K.m
-      → to_checks K (is_good K p h s) s (check_rows K (λ j. p.cell (i + (1 + j)))) m r ≡ to_good_checks (width K) K.k p h s i m r
-  checks-are s i zero r e = refl
-  checks-are s i (suc m) r e =
-      let f : ℕ → List ℕ = λ j. p.cell (i + (1 + j)) in
+  -- check blocks of which each is known go where the rules store them
+  pub checks-are : (s : ℕ) (f g : ℕ → List ℕ) (m r : ℕ) → r + m ≡ K.m → ((j : ℕ) → j < K.m → f j ≡ g j)
+      → to_checks K (is_good K p h s) s (check_rows K f) m r ≡ to_good_checks (width K) K.k p.live h s g m r
+  checks-are s f g zero r e same = refl
+  checks-are s f g (suc m) r e same =
       let good : Bool = is_good K p h s (K.k + r) in
       let slot : ℕ = slot_of (width K) s (K.k + r) in
       let rest : List (Store (List ℕ)) = to_checks K (is_good K p h s) s (check_rows K f) m (suc r) in
-      let there : check_rows K f r ≡ f r = cond-true (ltb r K.m) (f r) K.nil (lt-ltb r K.m (omega arith)) in
+      let there : check_rows K f r ≡ g r = cond-true (ltb r K.m) (f r) K.nil (lt-ltb r K.m (omega arith)) ∙ same r (omega arith) in
       ap (λ (x : List ℕ). cond good (to_block slot s x ∷ rest) rest) there
-      ∙ first_of good (to_block slot s (f r)) rest
-      ∙ ap (λ (xs : List (Store (List ℕ))). cond good (to_block slot s (f r) ∷ []) [] ++ xs)
-      (checks-are s i m (suc r) (omega arith) ∙ ap (λ (j : ℕ). to_good_checks (width K) K.k p h s i m j) (sym (add-one r)))
+      ∙ first_of good (to_block slot s (g r)) rest
+      ∙ ap (λ (xs : List (Store (List ℕ))). cond good (to_block slot s (g r) ∷ []) [] ++ xs)
+      (checks-are s f g m (suc r) (omega arith) same ∙ ap (λ (j : ℕ). to_good_checks (width K) K.k p.live h s g m j) (sym (add-one r)))
 
   finish-is : (i : ℕ) (d : Head) → finish K (is_good K p h) (record_from K p i d) ≡ finish_by (width K) K.k K.m p h i d
   finish-is i (OfWrite s c) = refl
-  finish-is i (OfParity s) = checks-are s i K.m 0 (omega arith)
+  finish-is i (OfParity s) = checks-are s (λ j. p.cell (i + (1 + j))) (λ j. p.cell (i + (1 + j))) K.m 0 (omega arith) (λ j l. refl)
 
 -- a head is of a stripe that there is
 abbrev InStripe : ℕ → Head → Type 0

@@ -14,7 +14,7 @@ use Rattle.array.specs.Calls.{reply_of}
 use Rattle.array.specs.Reads.{ColumnRead}
 
 module _ (K : Coding (List ℕ)) (p : Bytes) (h : Header) (s c : ℕ) (given bytes : List ℕ) (o : Option Header) (held : o ≡ Some h) where
-  here-ends : (r : Result (Unit {0}) ArrayFault) → ColumnRead (width K) K p h s c given r bytes
+  here-ends : (r : Result (Unit {0}) ArrayFault) → ColumnRead K p h s c given r bytes
       → Ends Sector [] (read_open K p h s c) p o (reply_of (λ _. of_block bytes) r) p o
   here-ends (Err f) d =
       inl (
@@ -35,15 +35,14 @@ module _ (K : Coding (List ℕ)) (p : Bytes) (h : Header) (s c : ℕ) (given byt
       )
 
   -- a column read from a backplane and a header that are left as they were
-  pub column-ends : (n : ℕ) (q : Bytes) (u : Option Header) (r : Result (Unit {0}) ArrayFault) → n ≡ width K → q ≡ p → u ≡ o → ColumnRead n K p h s c given r bytes
+  pub column-ends : (q : Bytes) (u : Option Header) (r : Result (Unit {0}) ArrayFault) → q ≡ p → u ≡ o → ColumnRead K p h s c given r bytes
       → Ends Sector [] (read_open K p h s c) p o (reply_of (λ _. of_block bytes) r) q u
-  column-ends n q u r w e f d =
+  column-ends q u r e f d =
       subst (λ (x : Bytes). Ends Sector [] (read_open K p h s c) p o (reply_of (λ _. of_block bytes) r) x u) (sym e)
-      (subst (λ (x : Option Header). Ends Sector [] (read_open K p h s c) p o (reply_of (λ _. of_block bytes) r) p x) (sym f)
-      (here-ends r (subst (λ (x : ℕ). ColumnRead x K p h s c given r bytes) w d)))
+      (subst (λ (x : Option Header). Ends Sector [] (read_open K p h s c) p o (reply_of (λ _. of_block bytes) r) p x) (sym f) (here-ends r d))
 
 -- the bytes given stay as they are where it is refused
-pub column-kept : (K : Coding (List ℕ)) (p : Bytes) (h : Header) (s c : ℕ) (given bytes : List ℕ) (n : ℕ) (r : Result (Unit {0}) ArrayFault)
-    → ColumnRead n K p h s c given r bytes → IfErr r (λ _. bytes ≡ given)
-column-kept K p h s c given bytes n (Ok _) d = tt
-column-kept K p h s c given bytes n (Err f) d = d.3
+pub column-kept : (K : Coding (List ℕ)) (p : Bytes) (h : Header) (s c : ℕ) (given bytes : List ℕ) (r : Result (Unit {0}) ArrayFault)
+    → ColumnRead K p h s c given r bytes → IfErr r (λ _. bytes ≡ given)
+column-kept K p h s c given bytes (Ok _) d = tt
+column-kept K p h s c given bytes (Err f) d = d.3

@@ -1,5 +1,5 @@
 -- The walk over the log at start, and the stores that finish its last record.
-use Rattle.std.specs.Prelude.{◌≡◌, ℕ, zero, suc, ◌+◌, ◌<◌, cond, not, List, [], ◌∷◌, ◌++◌, Some, None, Ok, Err, Option, Result}
+use Rattle.std.specs.Prelude.{◌≡◌, ℕ, zero, suc, ◌+◌, ◌<◌, Bool, cond, not, List, [], ◌∷◌, ◌++◌, Some, None, Ok, Err, Option, Result}
 use Rattle.backplane.specs.Plane.{Store, to_block}
 use Rattle.backplane.specs.Meaning.{Bytes}
 use Rattle.layout.specs.declared.head.Head.{Head}
@@ -25,19 +25,19 @@ Walks K p u (Err (Pending _)) = ⊥
 Walks K p u (Err Overfull) = ⊥
 Walks K p u (Err (AtCell _)) = ⊥
 
--- x goes to column c of stripe s, where that is good, with n slots
-abbrev pub to_good : ℕ → Bytes → Header → ℕ → ℕ → List ℕ → List (Store (List ℕ))
-to_good n p h s c x = cond (good_at n p.live (good_of h) s c) (to_block (slot_of n s c) s x ∷ []) []
+-- x goes to column c of stripe s, where that is good by the lives, with n slots
+abbrev pub to_good : ℕ → (ℕ → Bool) → Header → ℕ → ℕ → List ℕ → List (Store (List ℕ))
+to_good n live h s c x = cond (good_at n live (good_of h) s c) (to_block (slot_of n s c) s x ∷ []) []
 
--- the check blocks of the parity record in cell i, so many from check row r on, with n slots and k data columns
-abbrev pub to_good_checks : ℕ → ℕ → Bytes → Header → ℕ → ℕ → ℕ → ℕ → List (Store (List ℕ))
-to_good_checks n k p h s i zero r = []
-to_good_checks n k p h s i (suc m) r = to_good n p h s (k + r) (p.cell (i + (1 + r))) ++ to_good_checks n k p h s i m (r + 1)
+-- check blocks f, so many from check row r on, with n slots and k data columns
+abbrev pub to_good_checks : ℕ → ℕ → (ℕ → Bool) → Header → ℕ → (ℕ → List ℕ) → ℕ → ℕ → List (Store (List ℕ))
+to_good_checks n k live h s f zero r = []
+to_good_checks n k live h s f (suc m) r = to_good n live h s (k + r) (f r) ++ to_good_checks n k live h s f m (r + 1)
 
 -- what finishes the record with this head in cell i
 abbrev pub finish_by : ℕ → ℕ → ℕ → Bytes → Header → ℕ → Head → List (Store (List ℕ))
-finish_by n k m p h i (OfWrite s c) = to_good n p h s c (p.cell (i + 2))
-finish_by n k m p h i (OfParity s) = to_good_checks n k p h s i m 0
+finish_by n k m p h i (OfWrite s c) = to_good n p.live h s c (p.cell (i + 2))
+finish_by n k m p h i (OfParity s) = to_good_checks n k p.live h s (λ r. p.cell (i + (1 + r))) m 0
 
 -- that record is of a stripe that there is, and its cells are there
 abbrev pub Placed : ℕ → Bytes → ℕ → Head → Type 0

@@ -1,25 +1,21 @@
 // Reading a block: from its disk, or from the row of its stripe where its column is lost.
-ghost use Rattle.std.specs.Prelude.{◌≡◌, ◌+◌, ◌-◌, ◌*◌, ◌<◌, ◌≤◌, true, length, OnErr, nat_lt};
-ghost use Rattle.layout.specs.Stripes.{slot_of, stripe_of, column_of};
-ghost use Rattle.model.specs.Coding.{width};
-ghost use Rattle.model.specs.Row.{missing};
-ghost use Rattle.model.specs.Rules.{Read, good_of, row_of};
+ghost use Rattle.std.specs.Prelude.{◌≡◌, ◌-◌, ◌*◌, ◌<◌, ◌≤◌, length, OnErr};
+ghost use Rattle.layout.specs.Stripes.{stripe_of, column_of};
+ghost use Rattle.model.specs.Rules.{Read, lost_in, row_of};
 ghost use Rattle.model.specs.Verdict.{of_block};
-ghost use Rattle.rows.specs.Rows.{is_open};
-ghost use Rattle.array.specs.Calls.{coding_on, view_of, reply_of, wiped, Follows};
-ghost use Rattle.array.specs.Ready.{Ready};
+ghost use Rattle.array.specs.Calls.{coding_on, view_of, coding_of, reply_of, wiped, Follows};
 ghost use Rattle.array.specs.Reads.{ColumnRead};
+ghost use Rattle.array.specs.Ready.{Opens};
 
 use crate::array::{Array, WORK};
+use crate::parts::{BLOCK, Block, Parts, Row, split_work};
 use crate::places::get_block;
-use crate::row::{BLOCK, ROW, copy_column, is_good, load_row};
+use crate::row::{check_repairable, good_slot, load_row, locate_block, row_column};
+use crate::started::Started;
 use backplane::Backplane;
 use codes::Code;
 use faults::fault::{ArrayFault, StripeFault};
 use layout::blocks::WorkArea;
-use layout::header::Header;
-use layout::stripes::{locate, place};
-use rows::lost::count_lost;
 
 impl<B: Backplane, C: Code> Array<B, C> {
     // Reads the block of this number into 512 bytes. On a refusal these stay as they are.
@@ -49,38 +45,33 @@ impl<B: Backplane, C: Code> Array<B, C> {
         if !self.has_block(block) {
             return Err(ArrayFault::OfStripe(StripeFault::NoBlock));
         }
-        let Some(header) = self.opened() else {
+        let Some(started) = self.opened() else {
             return Err(ArrayFault::NotStarted);
         };
-        self.read_open(&header, block, into, work)
+        self.read_open(&started, block, into, work)
     }
 
-    // Reads a block of a started self.
+    // Reads a block of a started array.
     fn read_open(
         &mut self,
-        header: &Header,
+        started: &Started,
         block: u32,
         into: &mut [u8],
         work: &mut [u8],
     ) -> Result<(), ArrayFault>
-        requires opened { is_open (coding_on B.Backplane C.Code (view_of B.Backplane C.Code self.old)) (view_of B.Backplane C.Code self.old) header.now ≡ true }
-        requires ready { Ready C.Code.rows (view_of B.Backplane C.Code self.old) header.now }
+        requires started { Opens (coding_of B.Backplane C.Code self.old) (view_of B.Backplane C.Code self.old) started.now }
         requires block { block < (view_of B.Backplane C.Code self.old).blocks * ((view_of B.Backplane C.Code self.old).slots - C.Code.rows) }
         requires size { length into.old ≡ 512 }
         requires room { 10240 ≤ length work.old }
-        ensures does { ColumnRead (view_of B.Backplane C.Code self.old).slots (coding_on B.Backplane C.Code (view_of B.Backplane C.Code self.old)) (view_of B.Backplane C.Code self.old) header.now (stripe_of ((view_of B.Backplane C.Code self.old).slots - C.Code.rows) block) (column_of ((view_of B.Backplane C.Code self.old).slots - C.Code.rows) block) into.old result into.new }
+        ensures does { ColumnRead (coding_of B.Backplane C.Code self.old) (view_of B.Backplane C.Code self.old) started.now.header (stripe_of ((view_of B.Backplane C.Code self.old).slots - C.Code.rows) block) (column_of ((view_of B.Backplane C.Code self.old).slots - C.Code.rows) block) into.old result into.new }
         ensures plane { view_of B.Backplane C.Code self.new ≡ view_of B.Backplane C.Code self.old }
         ensures header { self.new.header ≡ self.old.header }
     {
-        let n = self.backplane.slots() as u8;
-        let rows = C::check_rows() as u8;
-        let (stripe, column) = locate(n - rows, block);
-        let (row, rest) = work.split_at_mut(ROW);
-        let (cell, _) = rest.split_at_mut(BLOCK);
+        let (stripe, column) = locate_block::<B, C>(&self.backplane, started, block);
+        let Parts { row, cell, .. } = split_work(work);
         read_column::<B, C>(
             &mut self.backplane,
-            n,
-            header,
+            started,
             stripe,
             column,
             into,
@@ -93,75 +84,46 @@ impl<B: Backplane, C: Code> Array<B, C> {
 // Reads a column of a stripe: from its disk if it is good, else from the row, unless the stripe is past repair.
 fn read_column<B: Backplane, C: Code>(
     plane: &mut B,
-    n: u8,
-    header: &Header,
+    started: &Started,
     stripe: u32,
     column: u8,
     into: &mut [u8],
-    row: &mut [u8],
-    cell: &mut [u8],
+    row: &mut Row,
+    cell: &mut Block,
 ) -> Result<(), ArrayFault>
-    requires opened { is_open (coding_on B.Backplane C.Code (B.Backplane.view plane.old)) (B.Backplane.view plane.old) header.now ≡ true }
-    requires power { (B.Backplane.view plane.old).on ≡ true }
-    requires slots { n ≡ (B.Backplane.view plane.old).slots }
-    requires columns { n ≡ width (coding_on B.Backplane C.Code (B.Backplane.view plane.old)) }
-    requires few { n ≤ 16 }
+    requires started { Opens (coding_on B.Backplane C.Code (B.Backplane.view plane.old)) (B.Backplane.view plane.old) started.now }
     requires stripe { stripe < (B.Backplane.view plane.old).blocks }
-    requires column { column < n }
+    requires column { column < started.now.shape.slots }
     requires size { length into.old ≡ 512 }
-    requires room { length row.old ≡ 8192 }
-    requires cell { length cell.old ≡ 512 }
-    ensures does { ColumnRead n (coding_on B.Backplane C.Code (B.Backplane.view plane.old)) (B.Backplane.view plane.old) header.now stripe column into.old result into.new }
+    ensures does { ColumnRead (coding_on B.Backplane C.Code (B.Backplane.view plane.old)) (B.Backplane.view plane.old) started.now.header stripe column into.old result into.new }
     ensures kept { B.Backplane.view plane.new ≡ B.Backplane.view plane.old }
 {
-    if is_good(plane, n, header, stripe, column) {
-        read_good(plane, n, stripe, column, into);
+    if let Some(slot) = good_slot(plane, started, stripe, column) {
+        get_block(plane, slot, stripe, into);
         return Ok(());
     }
-    let lost = count_lost(plane, n, header, stripe);
-    if lost as usize > C::check_rows() {
-        return Err(ArrayFault::OfStripe(StripeFault::PastRepair(stripe, lost)));
-    }
-    read_lost::<B, C>(plane, n, header, stripe, column, into, row, cell);
+    check_repairable::<B, C>(plane, started, stripe)?;
+    read_lost::<B, C>(plane, started, stripe, column, into, row, cell);
     Ok(())
-}
-
-fn read_good<B: Backplane>(plane: &mut B, n: u8, stripe: u32, column: u8, into: &mut [u8])
-    requires power { (B.Backplane.view plane.old).on ≡ true }
-    requires slots { n ≡ (B.Backplane.view plane.old).slots }
-    requires stripe { stripe < (B.Backplane.view plane.old).blocks }
-    requires column { column < n }
-    requires live { (B.Backplane.view plane.old).live (slot_of n stripe column) ≡ true }
-    requires size { length into.old ≡ 512 }
-    ensures got { into.new ≡ (B.Backplane.view plane.old).block (slot_of n stripe column) stripe }
-    ensures kept { B.Backplane.view plane.new ≡ B.Backplane.view plane.old }
-{
-    let (slot, block) = place(n, stripe, column);
-    get_block(plane, slot, block, into);
 }
 
 fn read_lost<B: Backplane, C: Code>(
     plane: &mut B,
-    n: u8,
-    header: &Header,
+    started: &Started,
     stripe: u32,
     column: u8,
     into: &mut [u8],
-    row: &mut [u8],
-    cell: &mut [u8],
+    row: &mut Row,
+    cell: &mut Block,
 )
-    requires opened { is_open (coding_on B.Backplane C.Code (B.Backplane.view plane.old)) (B.Backplane.view plane.old) header.now ≡ true }
-    requires columns { n ≡ width (coding_on B.Backplane C.Code (B.Backplane.view plane.old)) }
-    requires few { n ≤ 16 }
+    requires started { Opens (coding_on B.Backplane C.Code (B.Backplane.view plane.old)) (B.Backplane.view plane.old) started.now }
     requires stripe { stripe < (B.Backplane.view plane.old).blocks }
-    requires column { column < n }
-    requires repairable { missing n (B.Backplane.view plane.old).live (good_of header.now) stripe ≤ C.Code.rows }
+    requires column { column < started.now.shape.slots }
+    requires repairable { lost_in (coding_on B.Backplane C.Code (B.Backplane.view plane.old)) (B.Backplane.view plane.old) started.now.header stripe ≤ C.Code.rows }
     requires size { length into.old ≡ 512 }
-    requires room { length row.old ≡ 8192 }
-    requires cell { length cell.old ≡ 512 }
-    ensures got { into.new ≡ row_of (coding_on B.Backplane C.Code (B.Backplane.view plane.old)) (B.Backplane.view plane.old) header.now stripe column }
+    ensures got { into.new ≡ row_of (coding_on B.Backplane C.Code (B.Backplane.view plane.old)) (B.Backplane.view plane.old) started.now.header stripe column }
     ensures kept { B.Backplane.view plane.new ≡ B.Backplane.view plane.old }
 {
-    load_row::<B, C>(plane, n, header, stripe, row, cell);
-    copy_column(row, column, into);
+    load_row::<B, C>(plane, started, stripe, row, cell);
+    into.copy_from_slice(row_column(row, column));
 }

@@ -1,79 +1,124 @@
-// The row of a stripe that is known not to be past repair, and its columns.
-ghost use Rattle.std.specs.Prelude.{◌≡◌, ◌+◌, ◌-◌, ◌*◌, ◌<◌, ◌≤◌, true, length};
+// A stripe of a started array: where its blocks lie, its columns, and its row.
+ghost use Rattle.std.specs.Prelude.{◌≡◌, ◌+◌, ◌-◌, ◌*◌, ◌<◌, ◌≤◌, true, false, length, IfSome, MatchOption};
 ghost use Rattle.layout.specs.Bytes.{sum_of};
-ghost use Rattle.layout.specs.Header.{header_bytes};
-ghost use Rattle.layout.specs.Stripes.{slot_of};
-ghost use Rattle.model.specs.Coding.{width};
-ghost use Rattle.model.specs.Row.{good_at, missing, settled_with};
-ghost use Rattle.model.specs.Rules.{good_of, log_of};
+ghost use Rattle.layout.specs.Stripes.{slot_of, stripe_of, column_of};
+ghost use Rattle.model.specs.Row.{good_at, settled_with};
+ghost use Rattle.model.specs.Rules.{good_of, log_of, lost_in, row_of};
 ghost use Rattle.rows.specs.Columns.{column_in};
-ghost use Rattle.rows.specs.Rows.{is_open, HoldsRow};
-ghost use Rattle.array.specs.Calls.{coding_on, view_of, shape_for};
-ghost use Rattle.array.specs.Ready.{Sized, Ready};
+ghost use Rattle.rows.specs.Rows.{HoldsRow};
+ghost use Rattle.array.specs.Calls.{coding_on, Performed};
+ghost use Rattle.array.specs.Ready.{Fits, Opens};
+ghost use Rattle.array.specs.Repairs.{Repairable};
+ghost use Rattle.array.specs.Starts.{to_good};
 
-use crate::array::Array;
+use crate::parts::{BLOCK, Block, Row};
+use crate::places::put_block;
+use crate::started::Started;
 use backplane::Backplane;
 use codes::Code;
+use faults::fault::{ArrayFault, StripeFault};
 use layout::blocks::sum_into;
 use layout::header::Header;
-use rows::lost::is_lost;
+use layout::stripes::{locate, place};
+use rows::lost::count_lost;
 use rows::row::{row_of_stripe, settle_column};
 
-// The bytes of a block, and of the most columns that there are.
-pub(crate) const BLOCK: usize = 512;
-
-pub(crate) const ROW: usize = 8192;
-
-// The columns of a started array, one for each slot.
-pub(crate) fn columns<B: Backplane, C: Code>(plane: &B) -> u8
-    requires { Sized C.Code.rows (B.Backplane.view plane.now) }
-    ensures { result ≡ (B.Backplane.view plane.now).slots }
-{
-    plane.slots() as u8
-}
-
-// Those that hold data: all but the checks.
-pub(crate) fn data_columns<B: Backplane, C: Code>(plane: &B) -> u8
-    requires { Sized C.Code.rows (B.Backplane.view plane.now) }
-    ensures { result ≡ (B.Backplane.view plane.now).slots - C.Code.rows }
-{
-    (plane.slots() - C::check_rows() as u32) as u8
-}
-
-// Whether one of n columns of a stripe is good; then its slot is live.
-pub(crate) fn is_good<B: Backplane>(
+// The stripe and the column of a block that there is.
+pub(crate) fn locate_block<B: Backplane, C: Code>(
     plane: &B,
-    n: u8,
-    header: &Header,
+    started: &Started,
+    block: u32,
+) -> (u32, u8)
+    requires started { Opens (coding_on B.Backplane C.Code (B.Backplane.view plane.now)) (B.Backplane.view plane.now) started.now }
+    requires block { block < (B.Backplane.view plane.now).blocks * ((B.Backplane.view plane.now).slots - C.Code.rows) }
+    ensures stripe { result.0 ≡ stripe_of ((B.Backplane.view plane.now).slots - C.Code.rows) block }
+    ensures column { result.1 ≡ column_of ((B.Backplane.view plane.now).slots - C.Code.rows) block }
+    ensures within { result.0 < (B.Backplane.view plane.now).blocks }
+    ensures below { result.1 < started.now.shape.slots }
+{
+    locate(started.shape.columns, block)
+}
+
+// Refuses a stripe that is past repair: one with more lost columns than checks.
+pub(crate) fn check_repairable<B: Backplane, C: Code>(
+    plane: &B,
+    started: &Started,
+    stripe: u32,
+) -> Result<(), StripeFault>
+    requires { Opens (coding_on B.Backplane C.Code (B.Backplane.view plane.now)) (B.Backplane.view plane.now) started.now }
+    ensures { Repairable (coding_on B.Backplane C.Code (B.Backplane.view plane.now)) (B.Backplane.view plane.now) started.now.header stripe result }
+{
+    let lost = count_lost(plane, started.shape.slots, &started.header, stripe);
+    if lost as usize > C::check_rows() {
+        return Err(StripeFault::PastRepair(stripe, lost));
+    }
+    Ok(())
+}
+
+// The slot of a column of a stripe, where its block there is good.
+pub(crate) fn good_slot<B: Backplane>(
+    plane: &B,
+    started: &Started,
     stripe: u32,
     column: u8,
-) -> bool
-    requires { column < n }
-    ensures value { result ≡ good_at n (B.Backplane.view plane.now).live (good_of header.now) stripe column }
-    ensures live { result ≡ true → (B.Backplane.view plane.now).live (slot_of n stripe column) ≡ true }
+) -> Option<u32>
+    requires { Fits (B.Backplane.view plane.now) started.now }
+    ensures value { MatchOption result (good_at started.now.shape.slots (B.Backplane.view plane.now).live (good_of started.now.header) stripe column ≡ false) (λ d. (good_at started.now.shape.slots (B.Backplane.view plane.now).live (good_of started.now.header) stripe column ≡ true) × (d ≡ slot_of started.now.shape.slots stripe column)) }
+    ensures live { IfSome result (λ d. (d < (B.Backplane.view plane.now).slots) × ((B.Backplane.view plane.now).live d ≡ true)) }
 {
-    !is_lost(plane, n, header, stripe, column)
+    let (slot, _) = place(started.shape.slots, stripe, column);
+    if plane.live(slot) & (stripe < good_stripes(&started.header, slot)) {
+        Some(slot)
+    } else {
+        None
+    }
 }
 
-// Reads the row of a stripe. The cell is for one cell of the log.
+// The good stripes of a slot, none past the last slot.
+fn good_stripes(header: &Header, slot: u32) -> u32
+    ensures { result ≡ good_of header.now slot }
+{
+    if slot < 16 {
+        header.good[slot as usize]
+    } else {
+        0
+    }
+}
+
+// Stores bytes in the block of a column of a stripe, where that is good.
+pub(crate) fn store_good<B: Backplane>(
+    plane: &mut B,
+    started: &Started,
+    stripe: u32,
+    column: u8,
+    bytes: &[u8],
+) -> Result<(), ArrayFault>
+    requires fits { Fits (B.Backplane.view plane.old) started.now }
+    requires stripe { stripe < (B.Backplane.view plane.old).blocks }
+    requires size { length bytes.now ≡ 512 }
+    ensures { Performed (to_good started.now.shape.slots (B.Backplane.view plane.old).live started.now.header stripe column bytes.now) (B.Backplane.view plane.old) result (B.Backplane.view plane.new) }
+{
+    match good_slot(plane, started, stripe, column) {
+        Some(slot) => Ok(put_block(plane, slot, stripe, bytes)?),
+        None => Ok(()),
+    }
+}
+
+// Reads the row of a stripe that is not past repair.
 pub(crate) fn load_row<B: Backplane, C: Code>(
     plane: &mut B,
-    n: u8,
-    header: &Header,
+    started: &Started,
     stripe: u32,
-    row: &mut [u8],
-    cell: &mut [u8],
+    row: &mut Row,
+    cell: &mut Block,
 )
-    requires opened { is_open (coding_on B.Backplane C.Code (B.Backplane.view plane.old)) (B.Backplane.view plane.old) header.now ≡ true }
-    requires columns { n ≡ width (coding_on B.Backplane C.Code (B.Backplane.view plane.old)) }
+    requires started { Opens (coding_on B.Backplane C.Code (B.Backplane.view plane.old)) (B.Backplane.view plane.old) started.now }
     requires stripe { stripe < (B.Backplane.view plane.old).blocks }
-    requires repairable { missing n (B.Backplane.view plane.old).live (good_of header.now) stripe ≤ C.Code.rows }
-    requires room { length row.old ≡ 8192 }
-    requires size { length cell.old ≡ 512 }
-    ensures holds { HoldsRow (coding_on B.Backplane C.Code (B.Backplane.view plane.old)) (B.Backplane.view plane.old) header.now stripe row.new }
+    requires repairable { lost_in (coding_on B.Backplane C.Code (B.Backplane.view plane.old)) (B.Backplane.view plane.old) started.now.header stripe ≤ C.Code.rows }
+    ensures holds { HoldsRow (coding_on B.Backplane C.Code (B.Backplane.view plane.old)) (B.Backplane.view plane.old) started.now.header stripe row.new }
     ensures kept { B.Backplane.view plane.new ≡ B.Backplane.view plane.old }
 {
-    match row_of_stripe::<B, C>(plane, header, stripe, row, cell) {
+    match row_of_stripe::<B, C>(plane, &started.header, stripe, row, cell) {
         Ok(true) => {}
         _ => unreachable(),
     }
@@ -82,57 +127,29 @@ pub(crate) fn load_row<B: Backplane, C: Code>(
 // Adds the shares of the pending deltas to a column of the row, if that is a check column.
 pub(crate) fn add_debt<B: Backplane, C: Code>(
     plane: &mut B,
-    n: u8,
-    header: &Header,
+    started: &Started,
     stripe: u32,
     column: u8,
-    row: &mut [u8],
-    cell: &mut [u8],
+    row: &mut Row,
+    cell: &mut Block,
 )
-    requires opened { is_open (coding_on B.Backplane C.Code (B.Backplane.view plane.old)) (B.Backplane.view plane.old) header.now ≡ true }
-    requires columns { n ≡ width (coding_on B.Backplane C.Code (B.Backplane.view plane.old)) }
-    requires column { column < n }
-    requires room { length row.old ≡ 8192 }
-    requires size { length cell.old ≡ 512 }
-    ensures settled { column_in row.new column ≡ settled_with (coding_on B.Backplane C.Code (B.Backplane.view plane.old)) (log_of (coding_on B.Backplane C.Code (B.Backplane.view plane.old)) (B.Backplane.view plane.old) header.now) stripe column (column_in row.old column) }
+    requires started { Opens (coding_on B.Backplane C.Code (B.Backplane.view plane.old)) (B.Backplane.view plane.old) started.now }
+    requires column { column < started.now.shape.slots }
+    ensures settled { column_in row.new column ≡ settled_with (coding_on B.Backplane C.Code (B.Backplane.view plane.old)) (log_of (coding_on B.Backplane C.Code (B.Backplane.view plane.old)) (B.Backplane.view plane.old) started.now.header) stripe column (column_in row.old column) }
     ensures kept { B.Backplane.view plane.new ≡ B.Backplane.view plane.old }
 {
-    match settle_column::<B, C>(plane, header, stripe, column, row, cell) {
+    match settle_column::<B, C>(plane, &started.header, stripe, column, row, cell) {
         Ok(true) => {}
         _ => unreachable(),
     }
 }
 
-// Copies a column of the row.
-pub(crate) fn copy_column(row: &[u8], column: u8, into: &mut [u8])
-    requires room { 512 * column + 512 ≤ length row.now }
-    requires size { length into.old ≡ 512 }
-    ensures { into.new ≡ column_in row.now column }
+// A column of the row.
+pub(crate) fn row_column(row: &Row, column: u8) -> &[u8]
+    requires { column < 16 }
+    ensures value { result.now ≡ column_in row.now column }
+    ensures size { length result.now ≡ 512 }
 {
     let at = BLOCK * column as usize;
-    into.copy_from_slice(&row[at..at + BLOCK]);
-}
-
-// Leaves the sum of a column of the row and a block in the bytes of another.
-pub(crate) fn sum_column(row: &[u8], column: u8, block: &[u8], into: &mut [u8])
-    requires room { 512 * column + 512 ≤ length row.now }
-    requires block { length block.now ≡ 512 }
-    requires size { length into.old ≡ 512 }
-    ensures { into.new ≡ sum_of (column_in row.now column) block.now }
-{
-    let at = BLOCK * column as usize;
-    sum_into(into, &row[at..at + BLOCK], block);
-}
-
-impl<B: Backplane, C: Code> Array<B, C> {
-    // Fills 512 bytes with cell 0 of a started array with this header.
-    pub(crate) fn fill_cell(&self, header: &Header, into: &mut [u8])
-        requires ready { Ready C.Code.rows (view_of B.Backplane C.Code self.now) header.now }
-        requires into_len { length into.old ≡ 512 }
-        ensures { into.new ≡ header_bytes (shape_for B.Backplane C.Code self.now) header.now }
-    {
-        if let Some(shape) = self.shape() {
-            header.encode(&shape, into);
-        }
-    }
+    &row[at..at + BLOCK]
 }

@@ -1,29 +1,28 @@
 // Writing a block: its record goes into the log, is counted there, and then the block goes to its disk.
-ghost use Rattle.std.specs.Prelude.{◌≡◌, ℕ, ◌+◌, ◌-◌, ◌*◌, ◌<◌, ◌≤◌, true, List, ◌∷◌, length, Some, nat_lt};
+ghost use Rattle.std.specs.Prelude.{◌≡◌, ℕ, ◌+◌, ◌-◌, ◌*◌, ◌<◌, ◌≤◌, List, ◌∷◌, length, Some};
 ghost use Rattle.layout.specs.Bytes.{sum_of};
 ghost use Rattle.layout.specs.Stripes.{stripe_of, column_of};
-ghost use Rattle.model.specs.Coding.{width};
 ghost use Rattle.model.specs.Log.{write, owed};
-ghost use Rattle.model.specs.Row.{missing};
-ghost use Rattle.model.specs.Rules.{Write, good_of, log_of, row_of, grown, write_open};
-ghost use Rattle.rows.specs.Rows.{is_open};
+ghost use Rattle.model.specs.Rules.{Write, log_of, lost_in, row_of, grown, write_open};
 ghost use Rattle.array.specs.Calls.{coding_on, view_of, coding_of, acked, reply_of, wiped, Made, Same, Ended, Follows};
-ghost use Rattle.array.specs.Ready.{Sized, Ready};
-ghost use Rattle.array.specs.Writes.{WriteJudged};
+ghost use Rattle.array.specs.Ready.{Fits, Opens};
 ghost use Rattle.array.specs.Records.{appending, write_stores};
+ghost use Rattle.array.specs.Writes.{WriteJudged};
 
 use crate::array::{Array, WORK};
+use crate::cells::{head_cell, header_cell};
+use crate::parts::{BLOCK, Block, Parts, Row, split_work};
 use crate::record::store_write;
-use crate::row::{BLOCK, ROW, columns, data_columns, is_good, load_row, sum_column};
+use crate::records::lacks_room;
+use crate::row::{check_repairable, load_row, locate_block, row_column};
+use crate::started::Started;
 use backplane::Backplane;
 use codes::Code;
 use faults::fault::{ArrayFault, LogFault, StripeFault};
-use layout::blocks::WorkArea;
+use layout::blocks::{WorkArea, sum_into};
 use layout::head::Head;
 use layout::header::Header;
-use layout::stripes::{locate, place};
 use parity_log::owing::count_owing_with;
-use rows::lost::count_lost;
 
 impl<B: Backplane, C: Code> Array<B, C> {
     // Writes 512 bytes to the block of this number. Once that is acknowledged no power cut undoes it.
@@ -51,197 +50,132 @@ impl<B: Backplane, C: Code> Array<B, C> {
         if !self.has_block(block) {
             return Err(ArrayFault::OfStripe(StripeFault::NoBlock));
         }
-        let Some(header) = self.opened() else {
+        let Some(started) = self.opened() else {
             return Err(ArrayFault::NotStarted);
         };
-        self.write_open(&header, block, bytes, work)
+        self.write_open(&started, block, bytes, work)
     }
 
-    // Writes a block of a started self.
+    // Writes a block of a started array.
     fn write_open(
         &mut self,
-        header: &Header,
+        started: &Started,
         block: u32,
         bytes: &[u8],
         work: &mut [u8],
     ) -> Result<(), ArrayFault>
-        requires opened { is_open (coding_of B.Backplane C.Code self.old) (view_of B.Backplane C.Code self.old) header.now ≡ true }
-        requires ready { Ready C.Code.rows (view_of B.Backplane C.Code self.old) header.now }
+        requires started { Opens (coding_of B.Backplane C.Code self.old) (view_of B.Backplane C.Code self.old) started.now }
         requires block { block < (view_of B.Backplane C.Code self.old).blocks * ((view_of B.Backplane C.Code self.old).slots - C.Code.rows) }
         requires size { length bytes.now ≡ 512 }
         requires room { 10240 ≤ length work.old }
-        ensures { Ended B.Backplane C.Code (write_open (coding_of B.Backplane C.Code self.old) (view_of B.Backplane C.Code self.old) header.now (stripe_of ((view_of B.Backplane C.Code self.old).slots - C.Code.rows) block) (column_of ((view_of B.Backplane C.Code self.old).slots - C.Code.rows) block) bytes.now) self.old (reply_of acked result) self.new }
+        ensures { Ended B.Backplane C.Code (write_open (coding_of B.Backplane C.Code self.old) (view_of B.Backplane C.Code self.old) started.now.header (stripe_of ((view_of B.Backplane C.Code self.old).slots - C.Code.rows) block) (column_of ((view_of B.Backplane C.Code self.old).slots - C.Code.rows) block) bytes.now) self.old (reply_of acked result) self.new }
     {
-        let n = columns::<B, C>(&self.backplane);
-        let (stripe, column) = locate_block::<B, C>(&self.backplane, n, block);
-        let (row, rest) = work.split_at_mut(ROW);
-        let (head, rest) = rest.split_at_mut(BLOCK);
-        let (delta, rest) = rest.split_at_mut(BLOCK);
-        let (cell, _) = rest.split_at_mut(BLOCK);
-        self.write_column(n, header, stripe, column, bytes, row, head, delta, cell)
+        let (stripe, column) = locate_block::<B, C>(&self.backplane, started, block);
+        self.write_column(started, stripe, column, bytes, split_work(work))
     }
 
-    // Writes a column of a stripe, with n columns. The bytes of the row serve first for the marks of the stripes with pending records.
+    // Writes a column of a stripe.
     fn write_column(
         &mut self,
-        n: u8,
-        header: &Header,
+        started: &Started,
         stripe: u32,
         column: u8,
         bytes: &[u8],
-        row: &mut [u8],
-        head: &mut [u8],
-        delta: &mut [u8],
-        cell: &mut [u8],
+        parts: Parts<'_>,
     ) -> Result<(), ArrayFault>
-        requires opened { is_open (coding_of B.Backplane C.Code self.old) (view_of B.Backplane C.Code self.old) header.now ≡ true }
-        requires ready { Ready C.Code.rows (view_of B.Backplane C.Code self.old) header.now }
-        requires slots { n ≡ (view_of B.Backplane C.Code self.old).slots }
+        requires started { Opens (coding_of B.Backplane C.Code self.old) (view_of B.Backplane C.Code self.old) started.now }
         requires stripe { stripe < (view_of B.Backplane C.Code self.old).blocks }
-        requires column { column < n }
+        requires column { column < started.now.shape.slots }
         requires size { length bytes.now ≡ 512 }
-        requires room { length row.old ≡ 8192 }
-        requires head { length head.old ≡ 512 }
-        requires delta { length delta.old ≡ 512 }
-        requires cell { length cell.old ≡ 512 }
-        ensures { Ended B.Backplane C.Code (write_open (coding_of B.Backplane C.Code self.old) (view_of B.Backplane C.Code self.old) header.now stripe column bytes.now) self.old (reply_of acked result) self.new }
+        ensures { Ended B.Backplane C.Code (write_open (coding_of B.Backplane C.Code self.old) (view_of B.Backplane C.Code self.old) started.now.header stripe column bytes.now) self.old (reply_of acked result) self.new }
     {
-        judge_write::<B, C>(&mut self.backplane, n, header, stripe, row, cell)?;
+        let Parts { row, cell, block } = parts;
+        judge_write::<B, C>(&mut self.backplane, started, stripe, row, cell)?;
         find_delta::<B, C>(
             &mut self.backplane,
-            n,
-            header,
+            started,
             stripe,
             column,
             bytes,
+            block,
             row,
-            delta,
             cell,
         );
-        self.append_write(n, header, stripe, column, bytes, head, delta, cell)
+        self.append_write(started, stripe, column, bytes, block)
     }
 
     // Appends the record of a write, and finishes it where its column is good.
     fn append_write(
         &mut self,
-        n: u8,
-        header: &Header,
+        started: &Started,
         stripe: u32,
         column: u8,
         bytes: &[u8],
-        head: &mut [u8],
-        delta: &[u8],
-        cell: &mut [u8],
+        delta: &Block,
     ) -> Result<(), ArrayFault>
-        requires ready { Ready C.Code.rows (view_of B.Backplane C.Code self.old) header.now }
-        requires slots { n ≡ (view_of B.Backplane C.Code self.old).slots }
+        requires started { Opens (coding_of B.Backplane C.Code self.old) (view_of B.Backplane C.Code self.old) started.now }
         requires stripe { stripe < (view_of B.Backplane C.Code self.old).blocks }
-        requires column { column < n }
-        requires free { header.now.used + 3 < (view_of B.Backplane C.Code self.old).cells }
+        requires free { started.now.header.used + 3 < (view_of B.Backplane C.Code self.old).cells }
         requires size { length bytes.now ≡ 512 }
-        requires head { length head.old ≡ 512 }
-        requires delta { length delta.now ≡ 512 }
-        requires cell { length cell.old ≡ 512 }
-        ensures { Made (appending (coding_of B.Backplane C.Code self.old) (view_of B.Backplane C.Code self.old) header.now (write stripe column delta.now bytes.now)) Same tt (Some (grown (coding_of B.Backplane C.Code self.old) (view_of B.Backplane C.Code self.old) header.now (write stripe column delta.now bytes.now))) (view_of B.Backplane C.Code self.old) result (view_of B.Backplane C.Code self.new) self.new.header }
+        ensures { Made (appending (coding_of B.Backplane C.Code self.old) (view_of B.Backplane C.Code self.old) started.now.header (write stripe column delta.now bytes.now)) Same tt (Some (grown (coding_of B.Backplane C.Code self.old) (view_of B.Backplane C.Code self.old) started.now.header (write stripe column delta.now bytes.now))) (view_of B.Backplane C.Code self.old) result (view_of B.Backplane C.Code self.new) self.new.header }
     {
-        Head::OfWrite(stripe, column).encode(head);
-        let counted = header.with_used(header.used + 3);
-        self.fill_cell(&counted, cell);
-        let (slot, _) = place(n, stripe, column);
-        let good = is_good(&self.backplane, n, header, stripe, column);
-        self.store_counted(
-            counted,
-            header.used,
-            head,
-            delta,
-            bytes,
-            cell,
-            good,
-            slot,
-            stripe,
-        )
+        let head = head_cell(Head::OfWrite(stripe, column));
+        let counted = started.header.with_used(started.header.used + 3);
+        let cell = header_cell(&started.shape, &counted);
+        self.store_counted(started, counted, stripe, column, &head, delta, bytes, &cell)
     }
 
     // No header is held from the first store to the last, so that a cut leaves the array not started.
     fn store_counted(
         &mut self,
+        started: &Started,
         header: Header,
-        used: u32,
-        head: &[u8],
-        delta: &[u8],
+        stripe: u32,
+        column: u8,
+        head: &Block,
+        delta: &Block,
         image: &[u8],
-        cell: &[u8],
-        good: bool,
-        slot: u32,
-        block: u32,
+        cell: &Block,
     ) -> Result<(), ArrayFault>
-        requires power { (view_of B.Backplane C.Code self.old).on ≡ true }
-        requires free { used + 3 < (view_of B.Backplane C.Code self.old).cells }
-        requires few { used < 4096 }
-        requires slot { slot < (view_of B.Backplane C.Code self.old).slots }
-        requires live { good ≡ true → (view_of B.Backplane C.Code self.old).live slot ≡ true }
-        requires block { block < (view_of B.Backplane C.Code self.old).blocks }
-        requires head { length head.now ≡ 512 }
-        requires delta { length delta.now ≡ 512 }
-        requires image { length image.now ≡ 512 }
-        requires cell { length cell.now ≡ 512 }
-        ensures { Made (write_stores used head.now delta.now image.now cell.now good slot block) Same tt (Some header) (view_of B.Backplane C.Code self.old) result (view_of B.Backplane C.Code self.new) self.new.header }
+        requires fits { Fits (view_of B.Backplane C.Code self.old) started.now }
+        requires free { started.now.header.used + 3 < (view_of B.Backplane C.Code self.old).cells }
+        requires stripe { stripe < (view_of B.Backplane C.Code self.old).blocks }
+        requires size { length image.now ≡ 512 }
+        ensures { Made (write_stores started.now.shape.slots (view_of B.Backplane C.Code self.old).live started.now.header stripe column head.now delta.now image.now cell.now) Same tt (Some header) (view_of B.Backplane C.Code self.old) result (view_of B.Backplane C.Code self.new) self.new.header }
     {
         self.header = None;
         store_write(
             &mut self.backplane,
-            used,
+            started,
+            stripe,
+            column,
             head,
             delta,
             image,
             cell,
-            good,
-            slot,
-            block,
         )?;
         self.header = Some(header);
         Ok(())
     }
 }
 
-// The stripe and the column of a block that there is, with n columns.
-fn locate_block<B: Backplane, C: Code>(plane: &B, n: u8, block: u32) -> (u32, u8)
-    requires sized { Sized C.Code.rows (B.Backplane.view plane.now) }
-    requires slots { n ≡ (B.Backplane.view plane.now).slots }
-    requires block { block < (B.Backplane.view plane.now).blocks * ((B.Backplane.view plane.now).slots - C.Code.rows) }
-    ensures stripe { result.0 ≡ stripe_of ((B.Backplane.view plane.now).slots - C.Code.rows) block }
-    ensures column { result.1 ≡ column_of ((B.Backplane.view plane.now).slots - C.Code.rows) block }
-    ensures within { result.0 < (B.Backplane.view plane.now).blocks }
-    ensures below { result.1 < n }
-{
-    locate(data_columns::<B, C>(plane), block)
-}
-
 // Refuses a stripe that is past repair, and a log that has no room for the record and for the parity records that it then owes.
 fn judge_write<B: Backplane, C: Code>(
     plane: &mut B,
-    n: u8,
-    header: &Header,
+    started: &Started,
     stripe: u32,
-    map: &mut [u8],
-    cell: &mut [u8],
+    map: &mut Row,
+    cell: &mut Block,
 ) -> Result<(), ArrayFault>
-    requires ready { Ready C.Code.rows (B.Backplane.view plane.old) header.now }
-    requires slots { n ≡ (B.Backplane.view plane.old).slots }
-    requires map { length map.old ≡ 8192 }
-    requires cell { length cell.old ≡ 512 }
-    ensures judged { WriteJudged n (coding_on B.Backplane C.Code (B.Backplane.view plane.old)) (B.Backplane.view plane.old) header.now stripe result }
+    requires { Opens (coding_on B.Backplane C.Code (B.Backplane.view plane.old)) (B.Backplane.view plane.old) started.now }
+    ensures judged { WriteJudged (coding_on B.Backplane C.Code (B.Backplane.view plane.old)) (B.Backplane.view plane.old) started.now.header stripe result }
     ensures kept { B.Backplane.view plane.new ≡ B.Backplane.view plane.old }
 {
-    let lost = count_lost(plane, n, header, stripe);
-    if lost as usize > C::check_rows() {
-        return Err(ArrayFault::OfStripe(StripeFault::PastRepair(stripe, lost)));
-    }
-    let k = data_columns::<B, C>(plane);
-    let owing = count_with::<B, C>(plane, k, header, stripe, map, cell);
-    let last = plane.cells() - 1;
-    if is_past(last, header.used, C::check_rows() as u8, owing) {
-        return Err(ArrayFault::OfLog(LogFault::Full(last - header.used)));
+    check_repairable::<B, C>(plane, started, stripe)?;
+    let owing = count_with::<B, C>(plane, started, stripe, map, cell);
+    if lacks_room::<C>(started, 3, owing) {
+        let last = plane.cells() - 1;
+        return Err(ArrayFault::OfLog(LogFault::Full(last - started.header.used)));
     }
     Ok(())
 }
@@ -249,57 +183,41 @@ fn judge_write<B: Backplane, C: Code>(
 // How many stripes have pending records once there is one more write record, of this stripe.
 fn count_with<B: Backplane, C: Code>(
     plane: &mut B,
-    k: u8,
-    header: &Header,
+    started: &Started,
     stripe: u32,
-    map: &mut [u8],
-    cell: &mut [u8],
+    map: &mut Row,
+    cell: &mut Block,
 ) -> u32
-    requires ready { Ready C.Code.rows (B.Backplane.view plane.old) header.now }
-    requires columns { k ≡ (B.Backplane.view plane.old).slots - C.Code.rows }
-    requires map { length map.old ≡ 8192 }
-    requires cell { length cell.old ≡ 512 }
-    ensures value { (c : ℕ) (x y : List ℕ) → result ≡ owed (coding_on B.Backplane C.Code (B.Backplane.view plane.old)) (B.Backplane.view plane.old).blocks (write stripe c x y ∷ log_of (coding_on B.Backplane C.Code (B.Backplane.view plane.old)) (B.Backplane.view plane.old) header.now) }
+    requires { Opens (coding_on B.Backplane C.Code (B.Backplane.view plane.old)) (B.Backplane.view plane.old) started.now }
+    ensures value { (c : ℕ) (x y : List ℕ) → result ≡ owed (coding_on B.Backplane C.Code (B.Backplane.view plane.old)) (B.Backplane.view plane.old).blocks (write stripe c x y ∷ log_of (coding_on B.Backplane C.Code (B.Backplane.view plane.old)) (B.Backplane.view plane.old) started.now.header) }
     ensures kept { B.Backplane.view plane.new ≡ B.Backplane.view plane.old }
 {
-    match count_owing_with::<B, C>(plane, k, header.used, stripe, map, cell) {
+    let k = started.shape.columns;
+    match count_owing_with::<B, C>(plane, k, started.header.used, stripe, map, cell) {
         Ok(stripes) => stripes,
         Err(_) => unreachable(),
     }
 }
 
-// Whether a write record and so many parity records, with so many check rows, would end past the last cell.
-fn is_past(last: u32, used: u32, rows: u8, records: u32) -> bool
-    ensures { result ≡ nat_lt last (used + 3 + (1 + rows) * records) }
-{
-    used as u64 + 3 + (1 + rows as u64) * records as u64 > last as u64
-}
-
 // Leaves the sum of the old block, which is found in the row, and the new one.
 fn find_delta<B: Backplane, C: Code>(
     plane: &mut B,
-    n: u8,
-    header: &Header,
+    started: &Started,
     stripe: u32,
     column: u8,
     bytes: &[u8],
-    row: &mut [u8],
-    delta: &mut [u8],
-    cell: &mut [u8],
+    delta: &mut Block,
+    row: &mut Row,
+    cell: &mut Block,
 )
-    requires opened { is_open (coding_on B.Backplane C.Code (B.Backplane.view plane.old)) (B.Backplane.view plane.old) header.now ≡ true }
-    requires columns { n ≡ width (coding_on B.Backplane C.Code (B.Backplane.view plane.old)) }
-    requires few { n ≤ 16 }
+    requires started { Opens (coding_on B.Backplane C.Code (B.Backplane.view plane.old)) (B.Backplane.view plane.old) started.now }
     requires stripe { stripe < (B.Backplane.view plane.old).blocks }
-    requires column { column < n }
-    requires repairable { missing n (B.Backplane.view plane.old).live (good_of header.now) stripe ≤ C.Code.rows }
+    requires column { column < started.now.shape.slots }
+    requires repairable { lost_in (coding_on B.Backplane C.Code (B.Backplane.view plane.old)) (B.Backplane.view plane.old) started.now.header stripe ≤ C.Code.rows }
     requires size { length bytes.now ≡ 512 }
-    requires room { length row.old ≡ 8192 }
-    requires delta { length delta.old ≡ 512 }
-    requires cell { length cell.old ≡ 512 }
-    ensures found { delta.new ≡ sum_of (row_of (coding_on B.Backplane C.Code (B.Backplane.view plane.old)) (B.Backplane.view plane.old) header.now stripe column) bytes.now }
+    ensures found { delta.new ≡ sum_of (row_of (coding_on B.Backplane C.Code (B.Backplane.view plane.old)) (B.Backplane.view plane.old) started.now.header stripe column) bytes.now }
     ensures kept { B.Backplane.view plane.new ≡ B.Backplane.view plane.old }
 {
-    load_row::<B, C>(plane, n, header, stripe, row, cell);
-    sum_column(row, column, bytes, delta);
+    load_row::<B, C>(plane, started, stripe, row, cell);
+    sum_into(delta, row_column(row, column), bytes);
 }

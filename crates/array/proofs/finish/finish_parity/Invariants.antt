@@ -1,4 +1,4 @@
-use Rattle.std.proofs.Common.{◌≡◌, ◌-◌, Result}
+use Rattle.std.proofs.Common.{◌≡◌, ◌+◌, ◌-◌, Result}
 use Rattle.backplane.specs.Meaning.{Bytes}
 use Rattle.faults.specs.declared.fault.ArrayFault.{ArrayFault}
 use Rattle.array.specs.Calls.{Performed}
@@ -12,7 +12,7 @@ invariant-loop-row g l =
     let p = g.B.Backplane.view l.initial.plane in
     let now = g.B.Backplane.view l.plane in
     let m = g.C.Code.rows in
+    let checks = to_good_checks l.started.shape.slots l.started.shape.columns p.live l.started.header l.stripe (λ r. p.cell (l.at + (1 + r))) in
     Kept p now
     × (now.cell ≡ p.cell)
-    × ((q : Bytes) (r : Result (Unit {0}) ArrayFault) → Performed (to_good_checks l.n l.k p l.header l.stripe l.at (m - l.row) l.row) now r q
-    → Performed (to_good_checks l.n l.k p l.header l.stripe l.at m 0) p r q)
+    × ((q : Bytes) (r : Result (Unit {0}) ArrayFault) → Performed (checks (m - l.row) l.row) now r q → Performed (checks m 0) p r q)

@@ -10,6 +10,6 @@ use Rattle.array.proofs.parity.store_checks.Given as goal
 abbrev pub invariant-loop-r : goal.invariant-loop-r
 invariant-loop-r g l =
     let v = g.B.Backplane.view in
-    Kept (v l.initial.backplane) (v l.backplane)
-    × ((q : Bytes) (e : Result (Unit {0}) ArrayFault) → Performed (row_cells l.k l.row l.at (l.n - l.k - l.r) l.r) (v l.backplane) e q
-    → Performed (row_cells l.k l.row l.at (l.n - l.k) 0) (v l.initial.backplane) e q)
+    Kept (v l.initial.plane) (v l.plane)
+    × ((q : Bytes) (e : Result (Unit {0}) ArrayFault) → Performed (row_cells l.started.shape.columns l.row l.at (l.started.shape.slots - l.started.shape.columns - l.r) l.r) (v l.plane) e q
+    → Performed (row_cells l.started.shape.columns l.row l.at (l.started.shape.slots - l.started.shape.columns) 0) (v l.initial.plane) e q)

@@ -10,14 +10,14 @@ returns g c =
     let p = g.B.Backplane.view c.args.plane.now in
     let K = coding_on g.B.Backplane g.C.Code p in
     let at = c.args.at in
-    let k = c.args.k in
+    let k = c.args.started.now.shape.columns in
     let n = c.blocks-stripes.result in
     let blocks : n ≡ p.blocks = c.blocks-stripes.ensures ∙ ap (λ (x : Bytes). x.blocks) c.get_cell.ensures.kept in
     let e = c.decode_head.ensures.value
     ∙ ap (λ (x : List ℕ). head_in k n x) c.get_cell.ensures.got
     ∙ ap (λ (s : ℕ). head_in k s (p.cell at)) blocks
-    ∙ ap (λ (j : ℕ). head_in j p.blocks (p.cell at)) c.requires.k_value in
+    ∙ ap (λ (j : ℕ). head_in j p.blocks (p.cell at)) c.requires.started.columns in
     record {
-      value = last-to-finish K p c.args.header.now at c.decode_head.result (λ z. omega arith) c.requires.ready.used c.requires.last_at e;
+      value = last-to-finish K p c.args.started.now.header at c.decode_head.result (λ z. omega arith) c.requires.started.ready.used c.requires.last e;
       kept = c.get_cell.ensures.kept;
     }

@@ -1,43 +1,24 @@
-use Rattle.std.proofs.Common.{◌≡◌, ◌+◌, ◌-◌, ◌≤◌, eqb, length, refl, ◌∙◌, arith, rules}
-use Rattle.std.proofs.lemmas.Bool.{cond-true, eq-eqb}
-use Rattle.layout.specs.declared.head.Head.TheVariants.{OfParity}
-use Rattle.layout.specs.Head.{head_bytes}
+use Rattle.std.proofs.Common.{◌≡◌, ◌-◌, refl, ap, ◌∙◌, arith}
+use Rattle.layout.specs.declared.shape.Shape.{Shape}
+use Rattle.layout.specs.Header.{header_bytes}
 use Rattle.model.specs.Coding.{width}
 use Rattle.array.specs.Calls.{view_of, coding_of}
 use Rattle.array.proofs.Folded.{parity-phases}
 use Rattle.array.proofs.array.Array.append_parity.Goals as goal
 
-pub store_folded-requires : goal.store_folded-requires
-store_folded-requires g c = record {
-  power = search rules;
-  slots = search rules;
-  few = search rules;
-  columns = search rules;
-  some = search rules;
-  stripe = search rules;
-  free = search rules;
-  cells = search rules;
-  live = c.flag_lost-lost.ensures.live;
-  head = search rules;
-  room = search rules;
-  cell = search rules;
-}
-
 pub returns : goal.returns
 returns g c =
     let a = c.args.self.now in
-    let h = c.args.header.now in
-    let n = c.args.n in
-    let k = c.data_columns-k.result in
     let p = view_of g.B.Backplane g.C.Code a in
     let K = coding_of g.B.Backplane g.C.Code a in
-    let q = view_of g.B.Backplane g.C.Code c.store_folded.new.self in
-    let least : g.C.Code.rows + 2 ≤ p.slots = c.requires.ready.sized.least in
-    let slots : n ≡ p.slots = c.requires.slots in
-    let columns : k ≡ p.slots - g.C.Code.rows = c.data_columns-k.ensures in
-    let w : n ≡ width K = omega arith in
+    let started = c.requires.started in
+    let n = c.args.started.now.shape.slots in
+    let k = c.args.started.now.shape.columns in
+    let w : n ≡ width K = started.width in
+    let columns : k ≡ K.k = started.columns in
     let m : n - k ≡ g.C.Code.rows = omega arith in
-    let head : c.encode.new.into ≡ head_bytes (OfParity c.args.stripe) = c.encode.ensures.bytes ∙ cond-true (eqb (length c.args.head.now) 512) _ _ (eq-eqb _ 512 c.requires.head) in
-    parity-phases K p h c.args.stripe c.flag_lost-lost.result c.args.row.now c.requires.holds (λ x. refl) n k w columns m c.encode.new.into c.fill_cell.new.into
-    c.with_used-counted.result c.args.records c.store_folded.result q c.store_folded.new.self.header c.flag_lost-lost.ensures.flags head c.with_used-counted.ensures
-    c.fill_cell.ensures c.store_folded.ensures
+    let then = c.with_used-counted.result in
+    let z = c.store_folded.new.self in
+    parity-phases K p c.args.started.now.header c.args.stripe c.args.row.now c.requires.holds (λ x. refl) n k w columns m c.head_cell-head.result c.header_cell-cell.result then
+    c.args.records c.store_folded.result (view_of g.B.Backplane g.C.Code z) z.header c.head_cell-head.ensures c.with_used-counted.ensures
+    (c.header_cell-cell.ensures ∙ ap (λ (sh : Shape). header_bytes sh then) started.shape) c.store_folded.ensures

@@ -1,11 +1,10 @@
-use Rattle.std.proofs.Common.{◌≡◌, ℕ, ◌+◌, ◌-◌, ◌<◌, ◌≤◌, false, not, ltb, sym, ap, ◌∙◌, subst, inr, arith}
+use Rattle.std.proofs.Common.{◌≡◌, ℕ, ◌<◌, ◌≤◌, false, not, ltb, sym, ap, ◌∙◌, subst, inr, arith}
 use Rattle.std.proofs.lemmas.Bool.{ltb-true}
-use Rattle.model.specs.Row.{missing}
 use Rattle.model.specs.Rules.{good_of, rebuild_open}
 use Rattle.model.specs.Verdict.{of_number}
 use Rattle.array.specs.Calls.{view_of, coding_of, opened_of, reply_of}
 use Rattle.array.proofs.Endings.{long-enough, open-ends}
-use Rattle.array.proofs.Opening.{open_is, good-below, le-ne-lt}
+use Rattle.array.proofs.Opening.{good-below, le-ne-lt}
 use Rattle.array.proofs.Ways.{stripe-ends}
 use Rattle.array.proofs.array.Array.rebuild_in.Goals as goal
 
@@ -14,23 +13,20 @@ rebuild_stripe-requires g c =
     let a = c.args.self.now in
     let p = view_of g.B.Backplane g.C.Code a in
     let K = coding_of g.B.Backplane g.C.Code a in
-    let h = c.in-Some.header in
+    let h = c.in-Some.started.header in
     let d = c.args.slot in
     let s = c.in-Ok.stripe in
     let next = c.in-Ok.ensures in
-    let ready = c.in-Some.ensures.ready in
-    let few = ready.sized.few in
-    let opened = open_is K p a.header h c.in-Some.ensures.value in
+    let started = c.in-Some.ensures.started in
+    let few = started.ready.sized.few in
     let slot : d < p.slots = ltb-true d p.slots (sym c.has_slot.ensures ∙ c.if-not-has_slot.false) in
-    let most : s ≤ p.blocks = subst (λ (x : ℕ). x ≤ p.blocks) (sym next.0) (good-below K p h d opened slot (omega arith)) in
+    let most : s ≤ p.blocks = subst (λ (x : ℕ). x ≤ p.blocks) (sym next.0) (good-below K p h d started.started slot (omega arith)) in
     record {
-      opened = opened;
-      ready = ready;
+      started = started;
       slot = slot;
       live = next.1;
       stripe = le-ne-lt s p.blocks most next.2;
-      repairable = subst (λ (x : ℕ). missing x p.live (good_of h) s ≤ g.C.Code.rows) c.slots-n.ensures.value next.3;
-      room = c.requires;
+      repairable = next.3;
     }
 
 pub returns-in-Ok : goal.returns-in-Ok
@@ -40,19 +36,15 @@ returns-in-Ok g c =
     let p = view_of g.B.Backplane g.C.Code a in
     let q = view_of g.B.Backplane g.C.Code z in
     let K = coding_of g.B.Backplane g.C.Code a in
-    let h = c.in-Some.header in
+    let h = c.in-Some.started.header in
     let d = c.args.slot in
     let r = c.rebuild_stripe.result in
-    let n : ℕ = c.slots-n.result in
-    let slots : n ≡ p.slots = c.slots-n.ensures.value in
-    let least = c.in-Some.ensures.ready.sized.least in
-    let all : n ≡ p.slots - g.C.Code.rows + g.C.Code.rows = omega arith in
     let within : not (ltb d p.slots) ≡ false = ap not (sym c.has_slot.ensures ∙ c.if-not-has_slot.false) in
     inr (
       long-enough _ c.requires,
       inr (
         within,
         open-ends K (opened_of g.B.Backplane g.C.Code a) h (λ x. rebuild_open K p x d) p q a.header z.header (reply_of of_number r) c.in-Some.ensures.value
-            (stripe-ends K p h d a.header n c.in-Ok.stripe q r z.header all c.in-Ok.ensures c.rebuild_stripe.ensures),
+            (stripe-ends K p h d a.header c.in-Ok.stripe q r z.header c.in-Ok.ensures c.rebuild_stripe.ensures),
       ),
     )

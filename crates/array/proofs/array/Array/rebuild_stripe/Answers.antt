@@ -19,7 +19,7 @@ returns g c =
     let u = c.store_stripe.new.self.header in
     let r = c.store_stripe.result in
     let b = c.find_block.new.block in
-    let h = c.with_good.result in
+    let h = c.with_good-header.result in
     let here = subst (λ (x : Bytes). Made ((to_block d s b ∷ (to_cell 0 (header_bytes (shape_of (coding_on g.B.Backplane g.C.Code x) x) h) ∷ [])) ∷ []) Same (s + 1) (Some h) x r q u) c.find_block.ensures.kept c.store_stripe.ensures in
     let found = subst (λ (x : List ℕ). Made ((to_block d s x ∷ (to_header K p h ∷ [])) ∷ []) Same (s + 1) (Some h) p r q u) c.find_block.ensures.found here in
-    subst (λ (x : Header). Made ((to_block d s (rebuilt K p c.args.header.now d s) ∷ (to_header K p x ∷ [])) ∷ []) Same (s + 1) (Some x) p r q u) c.with_good.ensures found
+    subst (λ (x : Header). Made ((to_block d s (rebuilt K p c.args.started.now.header d s) ∷ (to_header K p x ∷ [])) ∷ []) Same (s + 1) (Some x) p r q u) c.with_good-header.ensures found

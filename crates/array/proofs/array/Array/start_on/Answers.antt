@@ -17,15 +17,15 @@ found rows sh x h e = go (is_laid_out rows sh x) e
     go true same = (refl, cc)
     go false none = cc
 
-pub returns-in-Some-read_header : goal.returns-in-Some-read_header
-returns-in-Some-read_header g c =
+pub returns : goal.returns
+returns g c =
     let on = coding_on g.B.Backplane g.C.Code in
     let p = view_of g.B.Backplane g.C.Code c.args.self.now in
     let q = view_of g.B.Backplane g.C.Code c.start_open.new.self in
     let u = c.start_open.new.self.header in
     let r = c.start_open.result in
     let o = c.args.self.now.header in
-    let h = c.in-Some-read_header.header in
+    let h = c.in-Some-read_header.started.header in
     let shape : c.in-Some.shape ≡ shape_of (on p) p = c.in-Some.ensures.cases.1 in
     let there = c.in-Some-read_header.ensures.value in
     let known = found g.C.Code.rows (shape_of (on p) p) (p.cell 0) h (subst (λ (s : Shape). Some h ≡ header_of g.C.Code.rows s (p.cell 0)) shape there) in

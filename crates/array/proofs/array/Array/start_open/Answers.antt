@@ -8,7 +8,7 @@ use Rattle.array.proofs.array.Array.start_open.Goals as goal
 pub returns : goal.returns
 returns g c =
     let a = c.args.self.now in
-    let h = c.args.header in
+    let h = c.args.started.now.header in
     let on = coding_on g.B.Backplane g.C.Code in
     let p = view_of g.B.Backplane g.C.Code a in
     let q = view_of g.B.Backplane g.C.Code c.finish_start.new.self in

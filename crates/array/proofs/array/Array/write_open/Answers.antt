@@ -9,7 +9,7 @@ use Rattle.array.proofs.array.Array.write_open.Goals as goal
 pub returns : goal.returns
 returns g c =
     let a = c.args.self.now in
-    let h = c.args.header.now in
+    let h = c.args.started.now.header in
     let x = c.args.bytes.now in
     let p = view_of g.B.Backplane g.C.Code a in
     let K = coding_of g.B.Backplane g.C.Code a in

@@ -1,16 +1,16 @@
 use Rattle.std.proofs.Common.{◌≡◌, ℕ, ◌+◌, ◌-◌, ◌*◌, ◌<◌, ◌≤◌, sym, ap, ◌∙◌, arith}
 use Rattle.layout.specs.Stripes.{stripe_of, column_of}
 use Rattle.array.proofs.Opening.{stripe-below}
-use Rattle.array.proofs.write.locate_block.Goals as goal
+use Rattle.array.proofs.row.locate_block.Goals as goal
 
 pub returns : goal.returns
 returns g c =
     let p = g.B.Backplane.view c.args.plane.now in
     let block : ℕ = c.args.block in
-    let k : ℕ = c.data_columns.result in
-    let least : g.C.Code.rows + 2 ≤ p.slots = c.requires.sized.least in
-    let slots : c.args.n ≡ p.slots = c.requires.slots in
-    let columns : k ≡ p.slots - g.C.Code.rows = c.data_columns.ensures in
+    let k : ℕ = c.args.started.now.shape.columns in
+    let least : g.C.Code.rows + 2 ≤ p.slots = c.requires.started.ready.sized.least in
+    let slots : c.args.started.now.shape.slots ≡ p.slots = c.requires.started.fits.slots in
+    let columns : k ≡ p.slots - g.C.Code.rows = c.requires.started.columns in
     let some : 0 < k = omega arith in
     let at = c.locate.ensures.place some in
     let back = c.locate.ensures.back some in
