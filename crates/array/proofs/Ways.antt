@@ -1,5 +1,5 @@
 -- How a rebuild of a stripe ends by the rules.
-use Rattle.std.proofs.Common.{◌≡◌, ℕ, ◌+◌, ◌≤◌, not, List, [], ◌∷◌, Some, Ok, Option, Result, ap, ◌∙◌, subst, inr}
+use Rattle.std.proofs.Common.{ℕ, ◌+◌, ◌≤◌, not, List, [], ◌∷◌, Some, Ok, Option, Result, ap, ◌∙◌, subst, inr}
 use Rattle.std.proofs.lemmas.Bool.{le-ltb, ne_eqb}
 use Rattle.backplane.specs.Plane.{Sector}
 use Rattle.backplane.specs.Meaning.{Bytes}

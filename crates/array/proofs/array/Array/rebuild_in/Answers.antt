@@ -1,6 +1,6 @@
 use Rattle.std.proofs.Common.{◌≡◌, ℕ, ◌<◌, ◌≤◌, false, not, ltb, sym, ap, ◌∙◌, subst, inr, arith}
 use Rattle.std.proofs.lemmas.Bool.{ltb-true}
-use Rattle.model.specs.Rules.{good_of, rebuild_open}
+use Rattle.model.specs.Rules.{rebuild_open}
 use Rattle.model.specs.Verdict.{of_number}
 use Rattle.array.specs.Calls.{view_of, coding_of, opened_of, reply_of}
 use Rattle.array.proofs.Endings.{long-enough, open-ends}
