@@ -58,9 +58,6 @@ impl<B: Backplane, C: Code> Array<B, C> {
     {
         let Parts { row, cell, .. } = split_work(work);
         let k = started.shape.columns;
-        match lowest_owing::<B, C>(&mut self.backplane, k, started.header.used, row, cell) {
-            Ok(stripe) => stripe,
-            Err(_) => unreachable(),
-        }
+        lowest_owing::<B, C>(&mut self.backplane, k, started.header.used, row, cell).unwrap()
     }
 }

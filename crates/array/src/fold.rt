@@ -148,8 +148,5 @@ fn count_records<B: Backplane, C: Code>(
     ensures kept { B.Backplane.view plane.new ≡ B.Backplane.view plane.old }
 {
     let k = started.shape.columns;
-    match count_pending::<B, C>(plane, k, started.header.used, stripe, cell) {
-        Ok(records) => records,
-        Err(_) => unreachable(),
-    }
+    count_pending::<B, C>(plane, k, started.header.used, stripe, cell).unwrap()
 }

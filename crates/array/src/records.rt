@@ -59,10 +59,7 @@ fn count_pending<B: Backplane, C: Code>(
     ensures value { result ≡ owed (coding_on B.Backplane C.Code (B.Backplane.view plane.old)) (B.Backplane.view plane.old).blocks (log_of (coding_on B.Backplane C.Code (B.Backplane.view plane.old)) (B.Backplane.view plane.old) started.now.header) }
     ensures kept { B.Backplane.view plane.new ≡ B.Backplane.view plane.old }
 {
-    match count_owing::<B, C>(plane, started.shape.columns, started.header.used, map, cell) {
-        Ok(stripes) => stripes,
-        Err(_) => unreachable(),
-    }
+    count_owing::<B, C>(plane, started.shape.columns, started.header.used, map, cell).unwrap()
 }
 
 // Walks over the log: the cell of its last head, 0 in an empty log.

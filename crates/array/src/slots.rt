@@ -71,9 +71,7 @@ impl<B: Backplane, C: Code> Array<B, C> {
         ensures { Made ((to_header (coding_of B.Backplane C.Code self.old) (view_of B.Backplane C.Code self.old) header ∷ []) ∷ []) (Fitting slot) tt (Some header) (view_of B.Backplane C.Code self.old) result (view_of B.Backplane C.Code self.new) self.new.header }
     {
         self.store_header(shape, header)?;
-        match self.backplane.fit(slot) {
-            Ok(()) => Ok(()),
-            Err(_) => unreachable(),
-        }
+        self.backplane.fit(slot).unwrap();
+        Ok(())
     }
 }

@@ -193,10 +193,7 @@ fn count_with<B: Backplane, C: Code>(
     ensures kept { B.Backplane.view plane.new ≡ B.Backplane.view plane.old }
 {
     let k = started.shape.columns;
-    match count_owing_with::<B, C>(plane, k, started.header.used, stripe, map, cell) {
-        Ok(stripes) => stripes,
-        Err(_) => unreachable(),
-    }
+    count_owing_with::<B, C>(plane, k, started.header.used, stripe, map, cell).unwrap()
 }
 
 // Leaves the sum of the old block, which is found in the row, and the new one.
