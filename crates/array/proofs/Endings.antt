@@ -10,8 +10,8 @@ use Rattle.layout.specs.declared.header.Header.{Header}
 use Rattle.faults.specs.declared.fault.ArrayFault.{ArrayFault}
 use Rattle.model.specs.Coding.{Coding}
 use Rattle.model.specs.Rules.{if_open, short_work}
-use Rattle.model.specs.Verdict.{Answer, Last, nothing, fits, LastOf, Reply, answered, refused, Verdict, make, Ends}
-use Rattle.array.specs.Calls.{reply_of, cut_place, stored_in, CuttingIn, Performed, Made, Same, held_after}
+use Rattle.model.specs.Verdict.{Answer, Last, done, nothing, fits, LastOf, Reply, answered, refused, Verdict, make, Ends}
+use Rattle.array.specs.Calls.{acked, reply_of, cut_place, stored_in, CuttingIn, Performed, Made, Same, held_after}
 
 -- the stores of phases, in one list
 abbrev pub flat : List (List (Store (List ℕ))) → List (Store (List ℕ))
@@ -51,6 +51,12 @@ module _ {T : Type 0} (f : T → Answer (List ℕ)) (phases : List (List (Store 
   pub fit-ends : (d : ℕ) (v : T) (h o : Option Header) (p q : Bytes) (r : Result T ArrayFault) (u : Option Header)
       → Made phases (Fitting d) v h p r q u → Ends Sector [] (make (flat phases) (fits d) (f v) h) p o (reply_of f r) q u
   fit-ends d v h o p q r u m = made_ends (Fitting d) (fits d) v h o p q r u (λ x y e. (e.fresh, e.whole, e.after)) m
+
+-- stores, after which a header is held, as the whole of a call
+pub performed-ends : (ss : List (Store (List ℕ))) (h : Header) (o u : Option Header) (p q : Bytes) (r : Result (Unit {0}) ArrayFault)
+    → Performed ss p r q → u ≡ held_after h r → Ends Sector [] (make ss nothing done (Some h)) p o (reply_of acked r) q u
+performed-ends ss h o u p q (Ok x) e k = inl (refl, e, k)
+performed-ends ss h o u p q (Err f) e k = inr (cut_place f, ap refused e.0, e.1, k)
 
 -- a started array goes on with the header held
 pub open-ends : (K : Coding (List ℕ)) (x : Option Header) (h : Header) (F : Header → Verdict (List ℕ)) (p q : Bytes) (o u : Option Header) (r : Reply (List ℕ))

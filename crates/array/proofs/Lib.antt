@@ -1,3 +1,10 @@
 pub mod Dead
 pub mod Endings
+pub mod Finishing
+pub mod Folded
+pub mod Found
+pub mod Opening
 pub mod Steps
+pub mod Switching
+pub mod Ways
+pub mod Written

@@ -1,12 +1,13 @@
 -- Stores performed one by one.
-use Rattle.std.proofs.Common.{◌≡◌, ℕ, List, ◌++◌, Ok, Err, Result, sym, ap, ◌∙◌, subst}
+use Rattle.std.proofs.Common.{◌≡◌, ℕ, List, [], ◌∷◌, ◌++◌, Ok, Err, Result, sym, ap, ◌∙◌, subst, inl, inr}
 use Rattle.backplane.specs.Plane.{Sector, Store}
 use Rattle.backplane.specs.Meaning.{Bytes}
 use Rattle.backplane.specs.Stores.{stored_all, Cutting}
 use Rattle.backplane.proofs.Runs.{stored-append, stored-slots, stored-blocks, stored-cells, stored_on, stored-live, cut-append, cut-after}
 use Rattle.faults.specs.declared.fault.ArrayFault.{ArrayFault}
-use Rattle.array.specs.Calls.{Performed, cut_place}
-use Rattle.array.specs.Ready.{Kept}
+use Rattle.array.specs.Calls.{Performed, PerformedIn, cut_place}
+use Rattle.array.specs.declared.started.Started.{Started}
+use Rattle.array.specs.Ready.{Fits, Kept}
 
 -- the rest after the first stores
 pub performed-append : (ss ts : List (Store (List ℕ))) (p m q : Bytes) (r : Result (Unit {0}) ArrayFault) → m ≡ stored_all ss p → Performed ts m r q → Performed (ss ++ ts) p r q
@@ -30,3 +31,23 @@ stored-kept ss p q e = record {
 pub kept-after : (p m q : Bytes) → Kept p m → Kept m q → Kept p q
 kept-after p m q a b = record
     { slots = b.slots ∙ a.slots; blocks = b.blocks ∙ a.blocks; cells = b.cells ∙ a.cells; on = b.on ∙ a.on; live = b.live ∙ a.live }
+
+-- a started array goes by the same after stores
+pub kept-fits : (p q : Bytes) (s : Started) → Kept p q → Fits p s → Fits q s
+kept-fits p q s k f = record {
+  on = k.on ∙ f.on;
+  slots = f.slots ∙ sym k.slots;
+  cells = f.cells ∙ sym k.cells;
+  some = f.some;
+  few = f.few;
+  log = f.log;
+  used = f.used;
+  columns = f.columns;
+}
+
+-- the last of three phases, after the first two
+pub performed-last : (a b c : List (Store (List ℕ))) (p m n q : Bytes) (r : Result (Unit {0}) ArrayFault) → m ≡ stored_all a p → n ≡ stored_all b m
+    → Performed c n r q → PerformedIn (a ∷ (b ∷ (c ∷ []))) p r q
+performed-last a b c p m n q (Ok x) e f h = h ∙ ap (stored_all c) (f ∙ ap (stored_all b) e)
+performed-last a b c p m n q (Err x) e f h =
+    (h.0, inr (inr (inl (subst (λ (y : Bytes). Cutting Sector c y q (cut_place x)) (f ∙ ap (stored_all b) e) h.1))))

@@ -1,3 +1,10 @@
 pub mod Calls
+pub mod Folds
 pub mod Formats
+pub mod Parity
+pub mod Reads
 pub mod Ready
+pub mod Records
+pub mod Repairs
+pub mod Starts
+pub mod Writes

@@ -165,7 +165,7 @@ impl<B: Backplane, C: Code> Array<B, C> {
     }
 
     // Turns the power on. The array is then not started.
-    fn power_on(&mut self)
+    pub(crate) fn power_on(&mut self)
         ensures view { view_of B.Backplane C.Code self.new ≡ switched true (view_of B.Backplane C.Code self.old) }
         ensures held { self.new.header ≡ None }
     {

@@ -2,8 +2,21 @@
 #![tactic(auto)]
 
 pub mod array;
+mod cells;
 pub mod clear;
+mod finish;
+pub mod fold;
 pub mod format;
+mod parity;
+mod parts;
 mod places;
+pub mod read;
+pub mod rebuild;
+mod record;
+mod records;
+mod row;
 pub mod slots;
+pub mod start;
+pub mod started;
 pub mod state;
+pub mod write;

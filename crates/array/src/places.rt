@@ -41,10 +41,7 @@ pub(crate) fn get_cell<B: Backplane>(backplane: &mut B, at: u32, into: &mut [u8]
     ensures got { into.new ≡ (B.Backplane.view backplane.old).cell at }
     ensures kept { B.Backplane.view backplane.new ≡ B.Backplane.view backplane.old }
 {
-    match backplane.read_cell(at, into) {
-        Ok(()) => {}
-        Err(_) => unreachable(),
-    }
+    backplane.read_cell(at, into).unwrap();
 }
 
 pub(crate) fn get_block<B: Backplane>(backplane: &mut B, slot: u32, block: u32, into: &mut [u8])
@@ -52,8 +49,5 @@ pub(crate) fn get_block<B: Backplane>(backplane: &mut B, slot: u32, block: u32, 
     ensures got { into.new ≡ (B.Backplane.view backplane.old).block slot block }
     ensures kept { B.Backplane.view backplane.new ≡ B.Backplane.view backplane.old }
 {
-    match backplane.read_block(slot, block, into) {
-        Ok(()) => {}
-        Err(_) => unreachable(),
-    }
+    backplane.read_block(slot, block, into).unwrap();
 }

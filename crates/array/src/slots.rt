@@ -3,7 +3,7 @@ ghost use Rattle.std.specs.Prelude.{◌≡◌, ◌<◌, ◌≤◌, true, false, 
 ghost use Rattle.layout.specs.Header.{with_good};
 ghost use Rattle.model.specs.Rules.{Pull, Fit, to_header};
 ghost use Rattle.backplane.specs.Meaning.{Fitting};
-ghost use Rattle.array.specs.Calls.{view_of, coding_of, acked, reply_of, wiped, Made, Follows};
+ghost use Rattle.array.specs.Calls.{view_of, coding_of, shape_for, acked, reply_of, wiped, Made, Follows};
 ghost use Rattle.array.specs.Ready.{Ready};
 
 use crate::array::{Array, WORK};
@@ -13,6 +13,7 @@ use codes::Code;
 use faults::fault::ArrayFault;
 use layout::blocks::WorkArea;
 use layout::header::Header;
+use layout::shape::Shape;
 
 // No stripe of the slot is good.
 fn unbuilt(header: Header, slot: u32) -> Header
@@ -52,27 +53,25 @@ impl<B: Backplane, C: Code> Array<B, C> {
         if !self.has_slot(slot) {
             return Err(ArrayFault::NoSlot);
         }
-        let Some(header) = self.opened() else {
+        let Some(started) = self.opened() else {
             return Err(ArrayFault::NotStarted);
         };
         if self.backplane.live(slot) {
             return Err(ArrayFault::OfBackplane(BackplaneFault::Live));
         }
-        self.fit_out(unbuilt(header, slot), slot, &mut work[0..512])
+        self.fit_out(&started.shape, unbuilt(started.header, slot), slot)
     }
 
     // The store of cell 0 comes first, so that a disk of other bytes is never taken for good.
-    fn fit_out(&mut self, header: Header, slot: u32, buffer: &mut [u8]) -> Result<(), ArrayFault>
+    fn fit_out(&mut self, shape: &Shape, header: Header, slot: u32) -> Result<(), ArrayFault>
         requires ready { Ready C.Code.rows (view_of B.Backplane C.Code self.old) header }
-        requires slot_bound { slot < (view_of B.Backplane C.Code self.old).slots }
-        requires slot_value { (view_of B.Backplane C.Code self.old).live slot ≡ false }
-        requires buffer_len { length buffer.old ≡ 512 }
+        requires shape { shape.now ≡ shape_for B.Backplane C.Code self.old }
+        requires slot { slot < (view_of B.Backplane C.Code self.old).slots }
+        requires dead { (view_of B.Backplane C.Code self.old).live slot ≡ false }
         ensures { Made ((to_header (coding_of B.Backplane C.Code self.old) (view_of B.Backplane C.Code self.old) header ∷ []) ∷ []) (Fitting slot) tt (Some header) (view_of B.Backplane C.Code self.old) result (view_of B.Backplane C.Code self.new) self.new.header }
     {
-        self.store_header(header, buffer)?;
-        match self.backplane.fit(slot) {
-            Ok(()) => Ok(()),
-            Err(_) => unreachable(),
-        }
+        self.store_header(shape, header)?;
+        self.backplane.fit(slot).unwrap();
+        Ok(())
     }
 }

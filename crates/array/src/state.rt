@@ -1,11 +1,13 @@
 // Whether the array is started, and the store of its header.
-ghost use Rattle.std.specs.Prelude.{◌≡◌, ◌<◌, ◌≤◌, true, false, [], ◌∷◌, length, is_some, IfSome, if◌then◌else◌, Some, None, MatchOption, OnSome, nat_lt};
+ghost use Rattle.std.specs.Prelude.{◌≡◌, ◌-◌, ◌*◌, ◌<◌, ◌≤◌, true, false, [], ◌∷◌, length, is_some, IfSome, if◌then◌else◌, Some, None, MatchOption, OnSome, nat_lt};
 ghost use Rattle.model.specs.Rules.{to_header};
 ghost use Rattle.array.specs.Calls.{view_of, coding_of, shape_for, limited, opened_of, Performed, held_after};
-ghost use Rattle.array.specs.Ready.{Sized, Ready};
+ghost use Rattle.array.specs.Ready.{Sized, Ready, Opens};
 
 use crate::array::Array;
+use crate::cells::header_cell;
 use crate::places::put_cell;
+use crate::started::Started;
 use backplane::Backplane;
 use codes::Code;
 use faults::fault::ArrayFault;
@@ -37,10 +39,10 @@ impl<B: Backplane, C: Code> Array<B, C> {
         Shape::of(C::code_number(), rows, slots, blocks, cells)
     }
 
-    // The header held, if the power is on and the header fits the backplane.
-    pub fn opened(&self) -> Option<Header>
-        ensures value { result ≡ opened_of B.Backplane C.Code self.now }
-        ensures ready { IfSome result (λ h. Ready C.Code.rows (view_of B.Backplane C.Code self.now) h) }
+    // What a started array goes by: the header held, if the power is on and the header fits the backplane.
+    pub fn opened(&self) -> Option<Started>
+        ensures value { MatchOption result (None ≡ opened_of B.Backplane C.Code self.now) (λ s. Some s.header ≡ opened_of B.Backplane C.Code self.now) }
+        ensures started { IfSome result (λ s. Opens (coding_of B.Backplane C.Code self.now) (view_of B.Backplane C.Code self.now) s) }
     {
         let Some(header) = self.header else {
             return None;
@@ -49,7 +51,7 @@ impl<B: Backplane, C: Code> Array<B, C> {
             return None;
         };
         if self.backplane.power() & header.fits(&shape) {
-            Some(header)
+            Some(Started { header, shape })
         } else {
             None
         }
@@ -67,22 +69,33 @@ impl<B: Backplane, C: Code> Array<B, C> {
         slot < self.backplane.slots()
     }
 
+    // Whether there is a block of this number: each stripe holds one for each slot beyond the checks.
+    pub(crate) fn has_block(&self, block: u32) -> bool
+        ensures { result ≡ nat_lt block ((view_of B.Backplane C.Code self.now).blocks * ((view_of B.Backplane C.Code self.now).slots - C.Code.rows)) }
+    {
+        let columns = self
+            .backplane
+            .slots()
+            .saturating_sub(C::check_rows() as u32);
+        (block as u64) < self.backplane.blocks() as u64 * columns as u64
+    }
+
+    pub(crate) fn has_stripe(&self, stripe: u32) -> bool
+        ensures { result ≡ nat_lt stripe (view_of B.Backplane C.Code self.now).blocks }
+    {
+        stripe < self.backplane.blocks()
+    }
+
     // Stores a header in cell 0; the array then holds it, and none after a cut.
-    pub(crate) fn store_header(
-        &mut self,
-        header: Header,
-        buffer: &mut [u8],
-    ) -> Result<(), ArrayFault>
+    pub(crate) fn store_header(&mut self, shape: &Shape, header: Header) -> Result<(), ArrayFault>
         requires ready { Ready C.Code.rows (view_of B.Backplane C.Code self.old) header }
-        requires buffer_len { length buffer.old ≡ 512 }
+        requires shape { shape.now ≡ shape_for B.Backplane C.Code self.old }
         ensures stores { Performed (to_header (coding_of B.Backplane C.Code self.old) (view_of B.Backplane C.Code self.old) header ∷ []) (view_of B.Backplane C.Code self.old) result (view_of B.Backplane C.Code self.new) }
         ensures held { self.new.header ≡ held_after header result }
     {
-        if let Some(shape) = self.shape() {
-            header.encode(&shape, buffer);
-        }
+        let cell = header_cell(shape, &header);
         self.header = None;
-        put_cell(&mut self.backplane, 0, buffer)?;
+        put_cell(&mut self.backplane, 0, &cell)?;
         self.header = Some(header);
         Ok(())
     }

@@ -204,25 +204,24 @@ fn read_array<B: Backplane, C: Code>(
     work: &mut [u8],
 ) -> Result<Block, ArrayFault> {
     let mut into = [0u8; 513];
-    reading::read::read(array, block, &mut into[..length.min(513)], work)?;
+    array.read(block, &mut into[..length.min(513)], work)?;
     Ok(into.first_chunk().copied().unwrap_or(ZEROS))
 }
 
 fn on_array<B: Backplane, C: Code>(array: &mut Array<B, C>, deed: Deed, work: &mut [u8]) -> Said {
     match deed {
-        Deed::Write(block, seed, length) => told_as(writing::write::write(
-            array,
+        Deed::Write(block, seed, length) => told_as(array.write(
             block,
             &filled(seed)[..length.min(513)],
             work,
         )),
         Deed::Read(block, length) => told_as(read_array(array, block, length, work)),
-        Deed::Fold(stripe) => told_as(folding::fold::fold(array, stripe, work)),
+        Deed::Fold(stripe) => told_as(array.fold(stripe, work)),
         Deed::Clear => told_as(array.clear(work)),
         Deed::Pull(slot) => told_as(array.pull(slot)),
         Deed::Fit(slot) => told_as(array.fit(slot, work)),
-        Deed::Rebuild(slot) => told_as(reading::rebuild::rebuild(array, slot, work)),
-        Deed::Start => told_as(starting::start::start(array, work)),
+        Deed::Rebuild(slot) => told_as(array.rebuild(slot, work)),
+        Deed::Start => told_as(array.start(work)),
         Deed::Format => told_as(array.format(work)),
     }
 }

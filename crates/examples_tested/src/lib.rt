@@ -11,7 +11,6 @@ mod tests {
     use memory::Memory;
     use std::alloc::{AllocError, Global};
     use std::test::Fail;
-    use writing::write::write;
 
     // What a call answers: of a refusal its number and its first detail.
     type Told = Result<(), (u32, u32)>;
@@ -28,7 +27,7 @@ mod tests {
         let mut all = vec![in heap; told(array.format(&mut work))]?;
         for (number, length) in writes.iter() {
             let block = &[1u8; 512][..*length.min(&512)];
-            all.push(told(write(&mut array, *number, block, &mut work)))?;
+            all.push(told(array.write(*number, block, &mut work)))?;
         }
         Ok(all)
     }

@@ -1,8 +1,6 @@
 -- A wiped work area stays as it is.
-use Rattle.std.proofs.Common.{◌≡◌, ℕ, ◌<◌, ◌≤◌, Bool, true, false, cond, ◌⊎◌, List, length, get_or, replicate, sym, refl, ap, ◌∙◌, inl, inr, arith}
+use Rattle.std.proofs.Common.{◌≡◌, ℕ, Bool, true, false, cond, List, length, replicate, sym, refl, ap, ◌∙◌}
 use lib.ListN.{length-replicate}
-use Rattle.std.proofs.lemmas.List.{get_or_past}
-use Rattle.std.proofs.lemmas.Bool.{cases_lt}
 use Rattle.model.specs.Rules.{short_work}
 use Rattle.array.specs.Calls.{wiped}
 use Rattle.run.specs.Calls.{area_after}
@@ -36,11 +34,3 @@ area-stays (Rebuild d) first w after e same h = h ∙ (ap wiped same ∙ e)
 area-stays Start first w after e same h = h ∙ (ap wiped same ∙ e)
 area-stays (Write l x) first w after e same h = h ∙ (ap wiped same ∙ e)
 area-stays (Fold s) first w after e same h = h ∙ (ap wiped same ∙ e)
-
--- past its end a list reads as 0, which is a byte too
-pub all-bytes : (xs : List ℕ) → ((i : ℕ) → i < length xs → get_or xs i 0 < 256) → (j : ℕ) → get_or xs j 0 < 256
-all-bytes xs h j = go (cases_lt j (length xs))
-  where
-    go : (j < length xs) ⊎ (length xs ≤ j) → get_or xs j 0 < 256
-    go (inl lt) = h j lt
-    go (inr le) = let e : get_or xs j 0 ≡ 0 = get_or_past xs j 0 le in omega (arith, e)

@@ -5,7 +5,7 @@ ghost use Rattle.run.specs.declared.call.RunFault.TheVariants.{Format, NoMemory}
 use faults::fault::ArrayFault;
 use std::alloc::AllocError;
 
-#[derive(Clone, Copy)]
+#[derive(Clone, Copy, Debug, PartialEq, Eq)]
 pub enum Call<'a> {
     // a block number
     Read(u32),

@@ -12,15 +12,9 @@ ghost use Rattle.run.specs.Runs.{device_of, MadeAll, MadeSome, RunKept, RunFaile
 use crate::call::{Answer, Call, RunFault};
 use array::array::Array;
 use backplane::Backplane;
-use backplane::bytes::below_256;
 use codes::Code;
 use faults::fault::ArrayFault;
-use folding::fold::fold;
-use reading::read::read;
-use reading::rebuild::rebuild;
-use starting::start::start;
 use std::alloc::{AllocError, AllocFailed, Global};
-use writing::write::write;
 
 // Formats the array, makes the calls one after the other, and gives back every answer, with every block read.
 pub fn run<B: Backplane, C: Code>(
@@ -75,10 +69,8 @@ fn make_next<B: Backplane, C: Code>(
     ensures added { IfOk result (λ x. answers.new.items ≡ answers.old.items ++ x ∷ []) }
 {
     let answer = make_one(array, call, work);
-    match answers.push(answer) {
-        Ok(()) => Ok(answer),
-        Err(refused) => Err(refused),
-    }
+    answers.push(answer)?;
+    Ok(answer)
 }
 
 fn make_one<B: Backplane, C: Code>(array: &mut Array<B, C>, call: Call, work: &mut [u8]) -> Answer
@@ -88,13 +80,13 @@ fn make_one<B: Backplane, C: Code>(array: &mut Array<B, C>, call: Call, work: &m
 {
     match call {
         Call::Read(number) => read_block(array, number, work),
-        Call::Clear => done(array.clear(work)),
-        Call::Pull(slot) => done(array.pull(slot)),
-        Call::Fit(slot) => done(array.fit(slot, work)),
-        Call::Rebuild(slot) => counted(rebuild(array, slot, work)),
-        Call::Start => done(start(array, work)),
+        Call::Clear => Answer::from(array.clear(work)),
+        Call::Pull(slot) => Answer::from(array.pull(slot)),
+        Call::Fit(slot) => Answer::from(array.fit(slot, work)),
+        Call::Rebuild(slot) => Answer::from(array.rebuild(slot, work)),
+        Call::Start => Answer::from(array.start(work)),
         Call::Write(number, bytes) => write_block(array, number, bytes, work),
-        Call::Fold(stripe) => counted(fold(array, stripe, work)),
+        Call::Fold(stripe) => Answer::from(array.fold(stripe, work)),
     }
 }
 
@@ -109,8 +101,7 @@ fn write_block<B: Backplane, C: Code>(
     ensures given { (j : ℕ) → slice_index bytes.now j < 256 }
     ensures area { work.new ≡ wiped work.old }
 {
-    below_256(bytes);
-    done(write(array, number, bytes, work))
+    Answer::from(array.write(number, bytes, work))
 }
 
 // The block of this number, inside the answer.
@@ -123,28 +114,32 @@ fn read_block<B: Backplane, C: Code>(
     ensures area { work.new ≡ wiped work.old }
 {
     let mut block = [0u8; 512];
-    match read(array, number, &mut block, work) {
+    match array.read(number, &mut block, work) {
         Ok(()) => Answer::Block(block),
         Err(f) => Answer::Refused(f),
     }
 }
 
 // The answer to a call that gives nothing but that it is done.
-fn done(r: Result<(), ArrayFault>) -> Answer
-    ensures { reply_for result ≡ reply_of acked r }
-{
-    match r {
-        Ok(()) => Answer::Done,
-        Err(f) => Answer::Refused(f),
+impl From<Result<(), ArrayFault>> for Answer {
+    ghost from_gives = { λ r a. reply_for a ≡ reply_of acked r };
+
+    fn from(r: Result<(), ArrayFault>) -> Answer {
+        match r {
+            Ok(()) => Answer::Done,
+            Err(f) => Answer::Refused(f),
+        }
     }
 }
 
 // The answer to a call that gives a number.
-fn counted(r: Result<u32, ArrayFault>) -> Answer
-    ensures { reply_for result ≡ reply_of of_number r }
-{
-    match r {
-        Ok(n) => Answer::Number(n),
-        Err(f) => Answer::Refused(f),
+impl From<Result<u32, ArrayFault>> for Answer {
+    ghost from_gives = { λ r a. reply_for a ≡ reply_of of_number r };
+
+    fn from(r: Result<u32, ArrayFault>) -> Answer {
+        match r {
+            Ok(n) => Answer::Number(n),
+            Err(f) => Answer::Refused(f),
+        }
     }
 }

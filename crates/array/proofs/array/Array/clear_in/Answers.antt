@@ -13,7 +13,7 @@ pub returns : goal.returns
 returns g c =
     let a = c.args.self.now in
     let b = c.lowest_pending.new.self in
-    let h = c.in-Some.header in
+    let h = c.in-Some.started.header in
     let n = c.emptied.result in
     let p = view_of g.B.Backplane g.C.Code a in
     let K = coding_of g.B.Backplane g.C.Code a in

@@ -11,7 +11,7 @@ pub returns : goal.returns
 returns g c =
     let a = c.args.self.now in
     let d = c.args.slot in
-    let h = c.in-Some.header in
+    let h = c.in-Some.started.header in
     let p = view_of g.B.Backplane g.C.Code a in
     let K = coding_of g.B.Backplane g.C.Code a in
     let q = view_of g.B.Backplane g.C.Code c.fit_out.new.self in

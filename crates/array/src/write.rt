@@ -1,0 +1,220 @@
+// Writing a block: its record goes into the log, is counted there, and then the block goes to its disk.
+ghost use Rattle.std.specs.Prelude.{◌≡◌, ℕ, ◌+◌, ◌-◌, ◌*◌, ◌<◌, ◌≤◌, List, ◌∷◌, length, Some};
+ghost use Rattle.layout.specs.Bytes.{sum_of};
+ghost use Rattle.layout.specs.Stripes.{stripe_of, column_of};
+ghost use Rattle.model.specs.Log.{write, owed};
+ghost use Rattle.model.specs.Rules.{Write, log_of, lost_in, row_of, grown, write_open};
+ghost use Rattle.array.specs.Calls.{coding_on, view_of, coding_of, acked, reply_of, wiped, Made, Same, Ended, Follows};
+ghost use Rattle.array.specs.Ready.{Fits, Opens};
+ghost use Rattle.array.specs.Records.{appending, write_stores};
+ghost use Rattle.array.specs.Writes.{WriteJudged};
+
+use crate::array::{Array, WORK};
+use crate::cells::{head_cell, header_cell};
+use crate::parts::{BLOCK, Block, Parts, Row, split_work};
+use crate::record::store_write;
+use crate::records::lacks_room;
+use crate::row::{check_repairable, load_row, locate_block, row_column};
+use crate::started::Started;
+use backplane::Backplane;
+use codes::Code;
+use faults::fault::{ArrayFault, LogFault, StripeFault};
+use layout::blocks::{WorkArea, sum_into};
+use layout::head::Head;
+use layout::header::Header;
+use parity_log::owing::count_owing_with;
+
+impl<B: Backplane, C: Code> Array<B, C> {
+    // Writes 512 bytes to the block of this number. Once that is acknowledged no power cut undoes it.
+    pub fn write(&mut self, block: u32, bytes: &[u8], work: &mut [u8]) -> Result<(), ArrayFault>
+        ensures does { Follows B.Backplane C.Code (Write block bytes.now (length work.old)) self.old (reply_of acked result) self.new }
+        ensures area { work.new ≡ wiped work.old }
+    {
+        if work.len() < WORK {
+            if bytes.len() != BLOCK {
+                return Err(ArrayFault::BlockLength);
+            }
+            return Err(ArrayFault::ShortWork);
+        }
+        let area = WorkArea(work);
+        self.write_in(block, bytes, area.0)
+    }
+
+    fn write_in(&mut self, block: u32, bytes: &[u8], work: &mut [u8]) -> Result<(), ArrayFault>
+        requires { 10240 ≤ length work.old }
+        ensures { Follows B.Backplane C.Code (Write block bytes.now (length work.old)) self.old (reply_of acked result) self.new }
+    {
+        if bytes.len() != BLOCK {
+            return Err(ArrayFault::BlockLength);
+        }
+        if !self.has_block(block) {
+            return Err(ArrayFault::OfStripe(StripeFault::NoBlock));
+        }
+        let Some(started) = self.opened() else {
+            return Err(ArrayFault::NotStarted);
+        };
+        self.write_open(&started, block, bytes, work)
+    }
+
+    // Writes a block of a started array.
+    fn write_open(
+        &mut self,
+        started: &Started,
+        block: u32,
+        bytes: &[u8],
+        work: &mut [u8],
+    ) -> Result<(), ArrayFault>
+        requires started { Opens (coding_of B.Backplane C.Code self.old) (view_of B.Backplane C.Code self.old) started.now }
+        requires block { block < (view_of B.Backplane C.Code self.old).blocks * ((view_of B.Backplane C.Code self.old).slots - C.Code.rows) }
+        requires size { length bytes.now ≡ 512 }
+        requires room { 10240 ≤ length work.old }
+        ensures { Ended B.Backplane C.Code (write_open (coding_of B.Backplane C.Code self.old) (view_of B.Backplane C.Code self.old) started.now.header (stripe_of ((view_of B.Backplane C.Code self.old).slots - C.Code.rows) block) (column_of ((view_of B.Backplane C.Code self.old).slots - C.Code.rows) block) bytes.now) self.old (reply_of acked result) self.new }
+    {
+        let (stripe, column) = locate_block::<B, C>(&self.backplane, started, block);
+        self.write_column(started, stripe, column, bytes, split_work(work))
+    }
+
+    // Writes a column of a stripe.
+    fn write_column(
+        &mut self,
+        started: &Started,
+        stripe: u32,
+        column: u8,
+        bytes: &[u8],
+        parts: Parts<'_>,
+    ) -> Result<(), ArrayFault>
+        requires started { Opens (coding_of B.Backplane C.Code self.old) (view_of B.Backplane C.Code self.old) started.now }
+        requires stripe { stripe < (view_of B.Backplane C.Code self.old).blocks }
+        requires column { column < started.now.shape.slots }
+        requires size { length bytes.now ≡ 512 }
+        ensures { Ended B.Backplane C.Code (write_open (coding_of B.Backplane C.Code self.old) (view_of B.Backplane C.Code self.old) started.now.header stripe column bytes.now) self.old (reply_of acked result) self.new }
+    {
+        let Parts { row, cell, block } = parts;
+        judge_write::<B, C>(&mut self.backplane, started, stripe, row, cell)?;
+        find_delta::<B, C>(
+            &mut self.backplane,
+            started,
+            stripe,
+            column,
+            bytes,
+            block,
+            row,
+            cell,
+        );
+        self.append_write(started, stripe, column, bytes, block)
+    }
+
+    // Appends the record of a write, and finishes it where its column is good.
+    fn append_write(
+        &mut self,
+        started: &Started,
+        stripe: u32,
+        column: u8,
+        bytes: &[u8],
+        delta: &Block,
+    ) -> Result<(), ArrayFault>
+        requires started { Opens (coding_of B.Backplane C.Code self.old) (view_of B.Backplane C.Code self.old) started.now }
+        requires stripe { stripe < (view_of B.Backplane C.Code self.old).blocks }
+        requires free { started.now.header.used + 3 < (view_of B.Backplane C.Code self.old).cells }
+        requires size { length bytes.now ≡ 512 }
+        ensures { Made (appending (coding_of B.Backplane C.Code self.old) (view_of B.Backplane C.Code self.old) started.now.header (write stripe column delta.now bytes.now)) Same tt (Some (grown (coding_of B.Backplane C.Code self.old) (view_of B.Backplane C.Code self.old) started.now.header (write stripe column delta.now bytes.now))) (view_of B.Backplane C.Code self.old) result (view_of B.Backplane C.Code self.new) self.new.header }
+    {
+        let head = head_cell(Head::OfWrite(stripe, column));
+        let counted = started.header.with_used(started.header.used + 3);
+        let cell = header_cell(&started.shape, &counted);
+        self.store_counted(started, counted, stripe, column, &head, delta, bytes, &cell)
+    }
+
+    // No header is held from the first store to the last, so that a cut leaves the array not started.
+    fn store_counted(
+        &mut self,
+        started: &Started,
+        header: Header,
+        stripe: u32,
+        column: u8,
+        head: &Block,
+        delta: &Block,
+        image: &[u8],
+        cell: &Block,
+    ) -> Result<(), ArrayFault>
+        requires fits { Fits (view_of B.Backplane C.Code self.old) started.now }
+        requires free { started.now.header.used + 3 < (view_of B.Backplane C.Code self.old).cells }
+        requires stripe { stripe < (view_of B.Backplane C.Code self.old).blocks }
+        requires size { length image.now ≡ 512 }
+        ensures { Made (write_stores started.now.shape.slots (view_of B.Backplane C.Code self.old).live started.now.header stripe column head.now delta.now image.now cell.now) Same tt (Some header) (view_of B.Backplane C.Code self.old) result (view_of B.Backplane C.Code self.new) self.new.header }
+    {
+        self.header = None;
+        store_write(
+            &mut self.backplane,
+            started,
+            stripe,
+            column,
+            head,
+            delta,
+            image,
+            cell,
+        )?;
+        self.header = Some(header);
+        Ok(())
+    }
+}
+
+// Refuses a stripe that is past repair, and a log that has no room for the record and for the parity records that it then owes.
+fn judge_write<B: Backplane, C: Code>(
+    plane: &mut B,
+    started: &Started,
+    stripe: u32,
+    map: &mut Row,
+    cell: &mut Block,
+) -> Result<(), ArrayFault>
+    requires { Opens (coding_on B.Backplane C.Code (B.Backplane.view plane.old)) (B.Backplane.view plane.old) started.now }
+    ensures judged { WriteJudged (coding_on B.Backplane C.Code (B.Backplane.view plane.old)) (B.Backplane.view plane.old) started.now.header stripe result }
+    ensures kept { B.Backplane.view plane.new ≡ B.Backplane.view plane.old }
+{
+    check_repairable::<B, C>(plane, started, stripe)?;
+    let owing = count_with::<B, C>(plane, started, stripe, map, cell);
+    if lacks_room::<C>(started, 3, owing) {
+        let last = plane.cells() - 1;
+        return Err(ArrayFault::OfLog(LogFault::Full(last - started.header.used)));
+    }
+    Ok(())
+}
+
+// How many stripes have pending records once there is one more write record, of this stripe.
+fn count_with<B: Backplane, C: Code>(
+    plane: &mut B,
+    started: &Started,
+    stripe: u32,
+    map: &mut Row,
+    cell: &mut Block,
+) -> u32
+    requires { Opens (coding_on B.Backplane C.Code (B.Backplane.view plane.old)) (B.Backplane.view plane.old) started.now }
+    ensures value { (c : ℕ) (x y : List ℕ) → result ≡ owed (coding_on B.Backplane C.Code (B.Backplane.view plane.old)) (B.Backplane.view plane.old).blocks (write stripe c x y ∷ log_of (coding_on B.Backplane C.Code (B.Backplane.view plane.old)) (B.Backplane.view plane.old) started.now.header) }
+    ensures kept { B.Backplane.view plane.new ≡ B.Backplane.view plane.old }
+{
+    let k = started.shape.columns;
+    count_owing_with::<B, C>(plane, k, started.header.used, stripe, map, cell).unwrap()
+}
+
+// Leaves the sum of the old block, which is found in the row, and the new one.
+fn find_delta<B: Backplane, C: Code>(
+    plane: &mut B,
+    started: &Started,
+    stripe: u32,
+    column: u8,
+    bytes: &[u8],
+    delta: &mut Block,
+    row: &mut Row,
+    cell: &mut Block,
+)
+    requires started { Opens (coding_on B.Backplane C.Code (B.Backplane.view plane.old)) (B.Backplane.view plane.old) started.now }
+    requires stripe { stripe < (B.Backplane.view plane.old).blocks }
+    requires column { column < started.now.shape.slots }
+    requires repairable { lost_in (coding_on B.Backplane C.Code (B.Backplane.view plane.old)) (B.Backplane.view plane.old) started.now.header stripe ≤ C.Code.rows }
+    requires size { length bytes.now ≡ 512 }
+    ensures found { delta.new ≡ sum_of (row_of (coding_on B.Backplane C.Code (B.Backplane.view plane.old)) (B.Backplane.view plane.old) started.now.header stripe column) bytes.now }
+    ensures kept { B.Backplane.view plane.new ≡ B.Backplane.view plane.old }
+{
+    load_row::<B, C>(plane, started, stripe, row, cell);
+    sum_into(delta, row_column(row, column), bytes);
+}

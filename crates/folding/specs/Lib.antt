@@ -1,2 +1,0 @@
-pub mod Parity
-pub mod Judged

@@ -1,3 +1,0 @@
-pub mod Opening
-pub mod Found
-pub mod Ways

@@ -1,3 +1,0 @@
-pub mod Ending
-pub mod Finishing
-pub mod Switching
