@@ -118,22 +118,33 @@ placed : (m u i : ℕ) (p : Bytes) (d : Head) → InStripe p.blocks d → i + re
 placed m u i p (OfWrite s c) h w f = (h, omega arith)
 placed m u i p (OfParity s) h w f = (h, omega arith)
 
-to-finish : (K : Coding (List ℕ)) (p : Bytes) (h : Header) (i : ℕ) (r : Rec (List ℕ)) (rest : List (Rec (List ℕ))) (o : Option Head)
-    → h.used < p.cells → log_of K p h ≡ r ∷ rest → Begun K p h.used i r → o ≡ head_in K.k p.blocks (K.bytes (p.cell i)) → ToFinish K p h i o
-to-finish K p h i r rest None f l b e = absurd (let read = b.read in let z : ◌≡◌ {A = ℕ} 0 1 = cc in omega arith)
-to-finish K p h i r rest (Some d) f l b e =
+to-finish : (K : Coding (List ℕ)) (p : Bytes) (h : Header) (i : ℕ) (r : Rec (List ℕ)) (rest : List (Rec (List ℕ))) (d : Head)
+    → h.used < p.cells → log_of K p h ≡ r ∷ rest → Begun K p h.used i r → Some d ≡ head_in K.k p.blocks (K.bytes (p.cell i)) → ToFinish K p h (Some (i, d))
+to-finish K p h i r rest d f l b e =
     let same : b.head ≡ d = (let read = b.read in cc) in
     let w = subst (λ (x : Head). i + record_cells K.m x ≤ h.used + 1) same b.within in (
       ap (finish_last K (is_good K p h)) l ∙ ap (finish K (is_good K p h)) b.same ∙ finish-is K p h i b.head ∙ ap (finish_by (width K) K.k K.m p h i) same,
       placed K.m h.used i p d (head-in-stripe K.k p.blocks (K.bytes (p.cell i)) d (sym e)) w f,
     )
 
-pub last-to-finish : (K : Coding (List ℕ)) (p : Bytes) (h : Header) (i : ℕ) (o : Option Head)
-    → (i ≡ 0 → ⊥) → h.used < p.cells → LastAt K p h.used i (log_of K p h) → o ≡ head_in K.k p.blocks (K.bytes (p.cell i)) → ToFinish K p h i o
-last-to-finish K p h zero o n f l e = absurd (n refl)
-last-to-finish K p h (suc i) o n f (r, rest, l, at) e = to-finish K p h (suc i) r rest o f l (begun K p h.used (suc i) r at) e
+-- the record in the cell that the walk found is to be finished
+pub last-to-finish : (K : Coding (List ℕ)) (p : Bytes) (h : Header) (last : Option ℕ) (i : ℕ) (d : Head)
+    → last ≡ Some i → h.used < p.cells → LastAt K p h.used last (log_of K p h) → Some d ≡ head_in K.k p.blocks (K.bytes (p.cell i)) → ToFinish K p h (Some (i, d))
+last-to-finish K p h None i d z f l e = absurd (cc)
+last-to-finish K p h (Some j) i d z f (r, rest, l, at) e =
+    let same : j ≡ i = cc in
+    to-finish K p h i r rest d f l (begun K p h.used i r (subst (λ (t : ℕ). record_at K p h.used t ≡ Some r) same at)) e
+
+-- that cell holds a head
+pub last-is-head : (K : Coding (List ℕ)) (p : Bytes) (h : Header) (last : Option ℕ) (i : ℕ)
+    → last ≡ Some i → LastAt K p h.used last (log_of K p h) → None ≡ head_in K.k p.blocks (K.bytes (p.cell i)) → ⊥
+last-is-head K p h None i z l e = cc
+last-is-head K p h (Some j) i z (r, rest, l, at) e =
+    let same : j ≡ i = cc in
+    let b = begun K p h.used i r (subst (λ (t : ℕ). record_at K p h.used t ≡ Some r) same at) in
+    let read = b.read in cc
 
 -- an empty log has no record to finish
-pub none-to-finish : (K : Coding (List ℕ)) (p : Bytes) (h : Header) (i : ℕ) → i ≡ 0 → LastAt K p h.used i (log_of K p h) → ToFinish K p h i None
-none-to-finish K p h zero z l = ap (finish_last K (is_good K p h)) l
-none-to-finish K p h (suc i) z l = absurd (omega arith)
+pub none-to-finish : (K : Coding (List ℕ)) (p : Bytes) (h : Header) (last : Option ℕ) → last ≡ None → LastAt K p h.used last (log_of K p h) → ToFinish K p h None
+none-to-finish K p h None z l = ap (finish_last K (is_good K p h)) l
+none-to-finish K p h (Some i) z l = absurd (cc)

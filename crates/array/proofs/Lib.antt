@@ -1,4 +1,3 @@
-pub mod Dead
 pub mod Endings
 pub mod Finishing
 pub mod Folded

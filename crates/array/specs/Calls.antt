@@ -14,7 +14,8 @@ use Rattle.layout.specs.declared.shape.Shape.{Shape}
 use Rattle.layout.specs.Limits.{within_limits}
 use Rattle.layout.specs.declared.header.Header.{Header}
 use Rattle.array.specs.declared.array.Array.{Array}
-use Rattle.model.specs.Coding.{Coding, byte_coding}
+use Rattle.model.specs.Coding.{Coding}
+use Rattle.parity_log.specs.Codes.{coding_on}
 use Rattle.model.specs.Verdict.{cut_at, Answer, done, Reply, answered, refused, Verdict, Ends}
 use Rattle.model.specs.Rules.{Call, short_work, shape_of, opened, verdict}
 use Rattle.faults.specs.declared.fault.LogFault.{LogFault}
@@ -112,23 +113,19 @@ fill_disks x blocks n d = flat_map (λ i. fill_disk x i blocks 0) (range_with_le
 
 -- over a backplane and a code by what their bounds say of them
 module _ {B C : Type 0} (plane : PlaneGhosts B) (code : CodeGhosts C) where
-  -- the code of the rules on a backplane: the slots that hold no check hold data
-  abbrev pub coding_on : Bytes → Coding (List ℕ)
-  coding_on p = byte_coding (p.slots - code.rows) code.number code.rows code.check code.solved
-
   -- the backplane of an array
   abbrev pub view_of : Array B C → Bytes
   view_of a = plane.view a.backplane
 
   abbrev pub coding_of : Array B C → Coding (List ℕ)
-  coding_of a = coding_on (view_of a)
+  coding_of a = coding_on code (view_of a)
 
   -- what cell 0 says of the code and the backplane, and whether it is within the limits
   abbrev pub shape_for : Array B C → Shape
   shape_for a = shape_of (coding_of a) (view_of a)
 
   abbrev pub limited : Array B C → Bool
-  limited a = within_limits code.rows (shape_for a)
+  limited a = within_limits code.ROWS (shape_for a)
 
   -- the header held, if the array is started
   abbrev pub opened_of : Array B C → Option Header

@@ -16,9 +16,9 @@ use Rattle.faults.specs.declared.fault.LogFault.{LogFault}
 use Rattle.faults.specs.declared.fault.LogFault.TheVariants.{Full, Pending, Damaged, Overfull, AtCell}
 use Rattle.parity_log.specs.Walks.{LastAt}
 
--- the walk over cells 1 to u answers the cell of the last head, or else the first damaged cell
-abbrev pub Walks : Coding (List ℕ) → Bytes → ℕ → Result ℕ LogFault → Type 0
-Walks K p u (Ok at) = ((walk K p u).damage ≡ None) × LastAt K p u at (walk K p u).log
+-- the walk over cells 1 to u answers the cell of the last head, if there is one, or else the first damaged cell
+abbrev pub Walks : Coding (List ℕ) → Bytes → ℕ → Result (Option ℕ) LogFault → Type 0
+Walks K p u (Ok last) = ((walk K p u).damage ≡ None) × LastAt K p u last (walk K p u).log
 Walks K p u (Err (Damaged at)) = (walk K p u).damage ≡ Some at
 Walks K p u (Err (Full _)) = ⊥
 Walks K p u (Err (Pending _)) = ⊥
@@ -44,10 +44,10 @@ abbrev pub Placed : ℕ → Bytes → ℕ → Head → Type 0
 Placed m p i (OfWrite s c) = (s < p.blocks) × (i + 2 < p.cells)
 Placed m p i (OfParity s) = (s < p.blocks) × (i + m < p.cells)
 
--- what is to be finished, by the head of the last record, in cell i, if there is one
-abbrev pub ToFinish : Coding (List ℕ) → Bytes → Header → ℕ → Option Head → Type 0
-ToFinish K p h i None = finish_last K (is_good K p h) (log_of K p h) ≡ []
-ToFinish K p h i (Some d) = (finish_last K (is_good K p h) (log_of K p h) ≡ finish_by (width K) K.k K.m p h i d) × Placed K.m p i d
+-- what is to be finished, by the cell and the head of the last record, if there is one
+abbrev pub ToFinish : Coding (List ℕ) → Bytes → Header → Option (ℕ × Head) → Type 0
+ToFinish K p h None = finish_last K (is_good K p h) (log_of K p h) ≡ []
+ToFinish K p h (Some r) = (finish_last K (is_good K p h) (log_of K p h) ≡ finish_by (width K) K.k K.m p h r.0 r.1) × Placed K.m p r.0 r.1
 
 -- the verdict on a start once the power is on
 abbrev pub start_on : Coding (List ℕ) → Bytes → Verdict (List ℕ)

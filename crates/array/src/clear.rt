@@ -14,7 +14,6 @@ use codes::Code;
 use faults::fault::{ArrayFault, LogFault};
 use layout::blocks::WorkArea;
 use layout::header::Header;
-use parity_log::owing::lowest_owing;
 
 fn emptied(header: Header) -> Header
     ensures { result ≡ with_used header 0 }
@@ -57,7 +56,9 @@ impl<B: Backplane, C: Code> Array<B, C> {
         ensures held { self.new.header ≡ self.old.header }
     {
         let Parts { row, cell, .. } = split_work(work);
-        let k = started.shape.columns;
-        lowest_owing::<B, C>(&mut self.backplane, k, started.header.used, row, cell).unwrap()
+        started
+            .log()
+            .lowest_pending::<B, C>(&mut self.backplane, row, cell)
+            .unwrap()
     }
 }

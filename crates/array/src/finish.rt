@@ -2,7 +2,8 @@
 ghost use Rattle.std.specs.Prelude.{◌≡◌, ◌+◌, ◌<◌};
 ghost use Rattle.parity_log.specs.Walks.{LastAt};
 ghost use Rattle.model.specs.Rules.{is_good, log_of, finish_last};
-ghost use Rattle.array.specs.Calls.{coding_on, Performed};
+ghost use Rattle.parity_log.specs.Codes.{coding_on};
+ghost use Rattle.array.specs.Calls.{Performed};
 ghost use Rattle.array.specs.Ready.{Fits, Opens};
 ghost use Rattle.array.specs.Starts.{to_good, to_good_checks, finish_by, Placed};
 
@@ -16,19 +17,19 @@ use codes::Code;
 use faults::fault::ArrayFault;
 use layout::head::Head;
 
-// Finishes the last record, whose head is in cell `at`: stores its image, or its check blocks, where their columns are good.
+// Finishes the last record, whose head is in the cell that the walk found: stores its image, or its check blocks, where their columns are good.
 pub(crate) fn finish_last<B: Backplane, C: Code>(
     plane: &mut B,
     started: &Started,
-    at: u32,
+    last: Option<u32>,
     cell: &mut Block,
 ) -> Result<(), ArrayFault>
-    requires started { Opens (coding_on B.Backplane C.Code (B.Backplane.view plane.old)) (B.Backplane.view plane.old) started.now }
-    requires last { LastAt (coding_on B.Backplane C.Code (B.Backplane.view plane.old)) (B.Backplane.view plane.old) started.now.header.used at (log_of (coding_on B.Backplane C.Code (B.Backplane.view plane.old)) (B.Backplane.view plane.old) started.now.header) }
-    ensures { Performed (finish_last (coding_on B.Backplane C.Code (B.Backplane.view plane.old)) (is_good (coding_on B.Backplane C.Code (B.Backplane.view plane.old)) (B.Backplane.view plane.old) started.now.header) (log_of (coding_on B.Backplane C.Code (B.Backplane.view plane.old)) (B.Backplane.view plane.old) started.now.header)) (B.Backplane.view plane.old) result (B.Backplane.view plane.new) }
+    requires started { Opens (coding_on C.Code (B.Backplane.view plane.old)) (B.Backplane.view plane.old) started.now }
+    requires last { LastAt (coding_on C.Code (B.Backplane.view plane.old)) (B.Backplane.view plane.old) started.now.header.used last (log_of (coding_on C.Code (B.Backplane.view plane.old)) (B.Backplane.view plane.old) started.now.header) }
+    ensures { Performed (finish_last (coding_on C.Code (B.Backplane.view plane.old)) (is_good (coding_on C.Code (B.Backplane.view plane.old)) (B.Backplane.view plane.old) started.now.header) (log_of (coding_on C.Code (B.Backplane.view plane.old)) (B.Backplane.view plane.old) started.now.header)) (B.Backplane.view plane.old) result (B.Backplane.view plane.new) }
 {
-    match last_record::<B, C>(plane, started, at, cell) {
-        Some(head) => finish_record::<B, C>(plane, started, at, head, cell),
+    match last_record::<B, C>(plane, started, last, cell) {
+        Some((at, head)) => finish_record::<B, C>(plane, started, at, head, cell),
         None => Ok(()),
     }
 }
@@ -40,9 +41,9 @@ fn finish_record<B: Backplane, C: Code>(
     head: Head,
     cell: &mut Block,
 ) -> Result<(), ArrayFault>
-    requires started { Opens (coding_on B.Backplane C.Code (B.Backplane.view plane.old)) (B.Backplane.view plane.old) started.now }
-    requires placed { Placed C.Code.rows (B.Backplane.view plane.old) at head }
-    ensures { Performed (finish_by started.now.shape.slots started.now.shape.columns C.Code.rows (B.Backplane.view plane.old) started.now.header at head) (B.Backplane.view plane.old) result (B.Backplane.view plane.new) }
+    requires started { Opens (coding_on C.Code (B.Backplane.view plane.old)) (B.Backplane.view plane.old) started.now }
+    requires placed { Placed C.Code.ROWS (B.Backplane.view plane.old) at head }
+    ensures { Performed (finish_by started.now.shape.slots started.now.shape.columns C.Code.ROWS (B.Backplane.view plane.old) started.now.header at head) (B.Backplane.view plane.old) result (B.Backplane.view plane.new) }
 {
     match head {
         Head::OfWrite(stripe, column) => {
@@ -61,10 +62,10 @@ fn finish_parity<B: Backplane, C: Code>(
     cell: &mut Block,
 ) -> Result<(), ArrayFault>
     requires fits { Fits (B.Backplane.view plane.old) started.now }
-    requires columns { started.now.shape.columns + C.Code.rows ≡ started.now.shape.slots }
+    requires columns { started.now.shape.columns + C.Code.ROWS ≡ started.now.shape.slots }
     requires stripe { stripe < (B.Backplane.view plane.old).blocks }
-    requires cells { at + C.Code.rows < (B.Backplane.view plane.old).cells }
-    ensures { Performed (to_good_checks started.now.shape.slots started.now.shape.columns (B.Backplane.view plane.old).live started.now.header stripe (λ r. (B.Backplane.view plane.old).cell (at + (1 + r))) C.Code.rows 0) (B.Backplane.view plane.old) result (B.Backplane.view plane.new) }
+    requires cells { at + C.Code.ROWS < (B.Backplane.view plane.old).cells }
+    ensures { Performed (to_good_checks started.now.shape.slots started.now.shape.columns (B.Backplane.view plane.old).live started.now.header stripe (λ r. (B.Backplane.view plane.old).cell (at + (1 + r))) C.Code.ROWS 0) (B.Backplane.view plane.old) result (B.Backplane.view plane.new) }
 {
     let k = started.shape.columns;
     for row in 0..check_columns::<C>() {

@@ -4,14 +4,14 @@ ghost use Rattle.model.specs.Log.{pending};
 ghost use Rattle.model.specs.Rules.{Fold, log_of, folded, grown, fold_open};
 ghost use Rattle.model.specs.Verdict.{of_number};
 ghost use Rattle.rows.specs.Rows.{HoldsRow};
-ghost use Rattle.array.specs.Calls.{coding_on, view_of, coding_of, reply_of, wiped, Made, Same, Ended, Follows};
+ghost use Rattle.parity_log.specs.Codes.{coding_on};
+ghost use Rattle.array.specs.Calls.{view_of, coding_of, reply_of, wiped, Made, Same, Ended, Follows};
 ghost use Rattle.array.specs.Folds.{FoldJudged};
 ghost use Rattle.array.specs.Parity.{parity_stores};
 ghost use Rattle.array.specs.Ready.{Fits, Opens};
 ghost use Rattle.array.specs.Records.{appending};
 
 use crate::array::{Array, WORK};
-use crate::cells::{head_cell, header_cell};
 use crate::parity::store_parity;
 use crate::parts::{Block, Parts, Row, split_work};
 use crate::records::lacks_room;
@@ -23,7 +23,6 @@ use faults::fault::{ArrayFault, StripeFault};
 use layout::blocks::WorkArea;
 use layout::head::Head;
 use layout::header::Header;
-use parity_log::pending::count_pending;
 
 impl<B: Backplane, C: Code> Array<B, C> {
     // Folds the pending records of a stripe into a parity record, and answers how many they were. Without any nothing is stored.
@@ -82,16 +81,16 @@ impl<B: Backplane, C: Code> Array<B, C> {
     ) -> Result<u32, ArrayFault>
         requires started { Opens (coding_of B.Backplane C.Code self.old) (view_of B.Backplane C.Code self.old) started.now }
         requires stripe { stripe < (view_of B.Backplane C.Code self.old).blocks }
-        requires free { started.now.header.used + (1 + C.Code.rows) < (view_of B.Backplane C.Code self.old).cells }
+        requires free { started.now.header.used + (1 + C.Code.ROWS) < (view_of B.Backplane C.Code self.old).cells }
         requires holds { HoldsRow (coding_of B.Backplane C.Code self.old) (view_of B.Backplane C.Code self.old) started.now.header stripe row.now }
         ensures { Made (appending (coding_of B.Backplane C.Code self.old) (view_of B.Backplane C.Code self.old) started.now.header (folded (coding_of B.Backplane C.Code self.old) (view_of B.Backplane C.Code self.old) started.now.header stripe)) Same records (Some (grown (coding_of B.Backplane C.Code self.old) (view_of B.Backplane C.Code self.old) started.now.header (folded (coding_of B.Backplane C.Code self.old) (view_of B.Backplane C.Code self.old) started.now.header stripe))) (view_of B.Backplane C.Code self.old) result (view_of B.Backplane C.Code self.new) self.new.header }
     {
-        let head = head_cell(Head::OfParity(stripe));
+        let head = Head::OfParity(stripe).cell();
         let rows = started.shape.slots - started.shape.columns;
         let counted = started
             .header
             .with_used(started.header.used + (1 + rows as u32));
-        let cell = header_cell(&started.shape, &counted);
+        let cell = counted.cell(&started.shape);
         self.store_folded(started, counted, stripe, records, &head, row, &cell)
     }
 
@@ -125,8 +124,8 @@ fn judge_fold<B: Backplane, C: Code>(
     stripe: u32,
     cell: &mut Block,
 ) -> Result<u32, ArrayFault>
-    requires { Opens (coding_on B.Backplane C.Code (B.Backplane.view plane.old)) (B.Backplane.view plane.old) started.now }
-    ensures judged { FoldJudged (coding_on B.Backplane C.Code (B.Backplane.view plane.old)) (B.Backplane.view plane.old) started.now.header stripe result }
+    requires { Opens (coding_on C.Code (B.Backplane.view plane.old)) (B.Backplane.view plane.old) started.now }
+    ensures judged { FoldJudged (coding_on C.Code (B.Backplane.view plane.old)) (B.Backplane.view plane.old) started.now.header stripe result }
     ensures kept { B.Backplane.view plane.new ≡ B.Backplane.view plane.old }
 {
     let records = count_records::<B, C>(plane, started, stripe, cell);
@@ -143,10 +142,12 @@ fn count_records<B: Backplane, C: Code>(
     stripe: u32,
     cell: &mut Block,
 ) -> u32
-    requires { Opens (coding_on B.Backplane C.Code (B.Backplane.view plane.old)) (B.Backplane.view plane.old) started.now }
-    ensures value { result ≡ pending (coding_on B.Backplane C.Code (B.Backplane.view plane.old)) stripe (log_of (coding_on B.Backplane C.Code (B.Backplane.view plane.old)) (B.Backplane.view plane.old) started.now.header) }
+    requires { Opens (coding_on C.Code (B.Backplane.view plane.old)) (B.Backplane.view plane.old) started.now }
+    ensures value { result ≡ pending (coding_on C.Code (B.Backplane.view plane.old)) stripe (log_of (coding_on C.Code (B.Backplane.view plane.old)) (B.Backplane.view plane.old) started.now.header) }
     ensures kept { B.Backplane.view plane.new ≡ B.Backplane.view plane.old }
 {
-    let k = started.shape.columns;
-    count_pending::<B, C>(plane, k, started.header.used, stripe, cell).unwrap()
+    started
+        .log()
+        .count_pending::<B, C>(plane, stripe, cell)
+        .unwrap()
 }

@@ -1,15 +1,16 @@
 // Formatting: zeros in all blocks, an empty log, and every stripe good.
-ghost use Rattle.std.specs.Prelude.{◌≡◌, ℕ, ◌+◌, ◌<◌, ◌≤◌, true, not, [], ◌∷◌, length, if◌then◌else◌, Some, None, OnOk, nat_lt};
+ghost use Rattle.std.specs.Prelude.{◌≡◌, ℕ, ◌<◌, true, not, [], ◌∷◌, length, ◌≤◌, Some, None, OnOk};
 ghost use Rattle.backplane.specs.Plane.{to_block, to_cell, switched};
 ghost use Rattle.layout.specs.Counts.{count};
 ghost use Rattle.model.specs.Coding.{zeros};
-ghost use Rattle.model.specs.Rules.{first_header, formatting};
+ghost use Rattle.model.specs.Rules.{formatting};
 ghost use Rattle.layout.specs.Header.{header_bytes};
 ghost use Rattle.array.specs.Formats.{first_of, formatted_by};
 ghost use Rattle.array.specs.Calls.{view_of, coding_of, shape_for, acked, reply_of, wiped, fill_disk, fill_disks, Performed, PerformedIn, Made, Same, Ended};
 ghost use Rattle.array.specs.Ready.{Sized, Kept};
 
 use crate::array::{Array, WORK};
+use crate::parts::{Block, Parts, split_work};
 use crate::places::{put_block, put_cell};
 use backplane::Backplane;
 use backplane::fault::BackplaneFault;
@@ -20,34 +21,25 @@ use layout::header::Header;
 use layout::shape::Shape;
 
 // How many slots are dead.
-fn dead_slots<B: Backplane>(backplane: &B) -> u32
+fn dead_slots<B: Backplane>(backplane: &B) -> usize
     ensures value { result ≡ count (B.Backplane.view backplane.now).slots (λ d. not ((B.Backplane.view backplane.now).live d)) }
     ensures live { result ≡ 0 → (d : ℕ) → d < (B.Backplane.view backplane.now).slots → (B.Backplane.view backplane.now).live d ≡ true }
 {
-    let mut dead = 0;
-    for d in 0..backplane.slots() {
-        dead += is_dead(backplane, d);
-    }
-    dead
-}
-
-fn is_dead<B: Backplane>(backplane: &B, slot: u32) -> u32
-    ensures { result ≡ (if not ((B.Backplane.view backplane.now).live slot) then 1 else 0) }
-{
-    if backplane.live(slot) { 0 } else { 1 }
+    (0..backplane.slots())
+        .filter(|d| !backplane.live(*d))
+        .count()
 }
 
 fn fill_block<B: Backplane>(
     backplane: &mut B,
     slot: u32,
     block: u32,
-    bytes: &[u8],
+    bytes: &Block,
 ) -> Result<(), ArrayFault>
-    requires backplane_value { (B.Backplane.view backplane.old).on ≡ true }
-    requires block_bound { block < (B.Backplane.view backplane.old).blocks }
-    requires slot_bound { slot < (B.Backplane.view backplane.old).slots }
-    requires slot_value { (B.Backplane.view backplane.old).live slot ≡ true }
-    requires bytes_len { length bytes.now ≡ 512 }
+    requires power { (B.Backplane.view backplane.old).on ≡ true }
+    requires block { block < (B.Backplane.view backplane.old).blocks }
+    requires slot { slot < (B.Backplane.view backplane.old).slots }
+    requires live { (B.Backplane.view backplane.old).live slot ≡ true }
     ensures { Performed (to_block slot block bytes.now ∷ []) (B.Backplane.view backplane.old) result (B.Backplane.view backplane.new) }
 {
     put_block(backplane, slot, block, bytes)?;
@@ -59,13 +51,12 @@ fn fill_disk<B: Backplane>(
     backplane: &mut B,
     slot: u32,
     blocks: u32,
-    bytes: &[u8],
+    bytes: &Block,
 ) -> Result<(), ArrayFault>
-    requires backplane_value { (B.Backplane.view backplane.old).on ≡ true }
-    requires backplane_value_2 { (B.Backplane.view backplane.old).blocks ≡ blocks }
-    requires slot_bound { slot < (B.Backplane.view backplane.old).slots }
-    requires slot_value { (B.Backplane.view backplane.old).live slot ≡ true }
-    requires bytes_len { length bytes.now ≡ 512 }
+    requires power { (B.Backplane.view backplane.old).on ≡ true }
+    requires blocks { (B.Backplane.view backplane.old).blocks ≡ blocks }
+    requires slot { slot < (B.Backplane.view backplane.old).slots }
+    requires live { (B.Backplane.view backplane.old).live slot ≡ true }
     ensures { Performed (fill_disk bytes.now slot blocks 0) (B.Backplane.view backplane.old) result (B.Backplane.view backplane.new) }
 {
     for b in 0..blocks {
@@ -79,13 +70,12 @@ fn fill_disks<B: Backplane>(
     backplane: &mut B,
     slots: u32,
     blocks: u32,
-    bytes: &[u8],
+    bytes: &Block,
 ) -> Result<(), ArrayFault>
-    requires backplane_value { (B.Backplane.view backplane.old).on ≡ true }
-    requires backplane_value_2 { (B.Backplane.view backplane.old).blocks ≡ blocks }
-    requires backplane_value_3 { (B.Backplane.view backplane.old).slots ≡ slots }
-    requires by_index { (d : ℕ) → d < slots → (B.Backplane.view backplane.old).live d ≡ true }
-    requires bytes_len { length bytes.now ≡ 512 }
+    requires power { (B.Backplane.view backplane.old).on ≡ true }
+    requires blocks { (B.Backplane.view backplane.old).blocks ≡ blocks }
+    requires slots { (B.Backplane.view backplane.old).slots ≡ slots }
+    requires live { (d : ℕ) → d < slots → (B.Backplane.view backplane.old).live d ≡ true }
     ensures stores { Performed (fill_disks bytes.now blocks slots 0) (B.Backplane.view backplane.old) result (B.Backplane.view backplane.new) }
     ensures kept { OnOk result (Kept (B.Backplane.view backplane.old) (B.Backplane.view backplane.new)) }
 {
@@ -100,39 +90,20 @@ fn store_formatted<B: Backplane>(
     backplane: &mut B,
     slots: u32,
     blocks: u32,
-    zero: &[u8],
-    cell: &[u8],
+    zero: &Block,
+    cell: &Block,
 ) -> Result<(), ArrayFault>
-    requires backplane_value { (B.Backplane.view backplane.old).on ≡ true }
-    requires cells_nonzero { 0 < (B.Backplane.view backplane.old).cells }
-    requires backplane_value_2 { (B.Backplane.view backplane.old).blocks ≡ blocks }
-    requires backplane_value_3 { (B.Backplane.view backplane.old).slots ≡ slots }
-    requires by_index { (d : ℕ) → d < slots → (B.Backplane.view backplane.old).live d ≡ true }
-    requires zero_len { length zero.now ≡ 512 }
-    requires cell_len { length cell.now ≡ 512 }
+    requires power { (B.Backplane.view backplane.old).on ≡ true }
+    requires cells { 0 < (B.Backplane.view backplane.old).cells }
+    requires blocks { (B.Backplane.view backplane.old).blocks ≡ blocks }
+    requires slots { (B.Backplane.view backplane.old).slots ≡ slots }
+    requires live { (d : ℕ) → d < slots → (B.Backplane.view backplane.old).live d ≡ true }
     ensures { PerformedIn ((to_cell 0 zero.now ∷ []) ∷ (fill_disks zero.now blocks slots 0 ∷ ((to_cell 0 cell.now ∷ []) ∷ []))) (B.Backplane.view backplane.old) result (B.Backplane.view backplane.new) }
 {
     put_cell(backplane, 0, zero)?;
     fill_disks(backplane, slots, blocks, zero)?;
     put_cell(backplane, 0, cell)?;
     Ok(())
-}
-
-// The good stripes of a slot in an array just formatted.
-fn first_good(slots: u8, blocks: u32, d: usize) -> u32
-    ensures { result ≡ (if nat_lt d slots then blocks else 0) }
-{
-    if d < slots as usize { blocks } else { 0 }
-}
-
-fn first_header(slots: u8, blocks: u32) -> Header
-    ensures { result ≡ first_header slots blocks }
-{
-    let mut good = [0u32; 16];
-    for d in 0..16 {
-        good[d] = first_good(slots, blocks, d);
-    }
-    Header { used: 0, good }
 }
 
 impl<B: Backplane, C: Code> Array<B, C> {
@@ -159,9 +130,8 @@ impl<B: Backplane, C: Code> Array<B, C> {
             return Err(ArrayFault::OfBackplane(BackplaneFault::Dead));
         }
         self.power_on();
-        let (zero, rest) = work.split_at_mut(512);
-        let (cell, _) = rest.split_at_mut(512);
-        self.format_out(&shape, zero, cell)
+        let Parts { block, .. } = split_work(work);
+        self.format_out(&shape, block)
     }
 
     // Turns the power on. The array is then not started.
@@ -173,41 +143,31 @@ impl<B: Backplane, C: Code> Array<B, C> {
         self.backplane.power_up();
     }
 
-    fn format_out(
-        &mut self,
-        shape: &Shape,
-        zero: &mut [u8],
-        cell: &mut [u8],
-    ) -> Result<(), ArrayFault>
-        requires header_value { self.old.header ≡ None }
-        requires self_value { (view_of B.Backplane C.Code self.old).on ≡ true }
-        requires sized { Sized C.Code.rows (view_of B.Backplane C.Code self.old) }
-        requires shape_value { shape.now ≡ shape_for B.Backplane C.Code self.old }
-        requires by_index { (d : ℕ) → d < (view_of B.Backplane C.Code self.old).slots → (view_of B.Backplane C.Code self.old).live d ≡ true }
-        requires zero_len { length zero.old ≡ 512 }
-        requires cell_len { length cell.old ≡ 512 }
+    fn format_out(&mut self, shape: &Shape, zero: &mut Block) -> Result<(), ArrayFault>
+        requires held { self.old.header ≡ None }
+        requires power { (view_of B.Backplane C.Code self.old).on ≡ true }
+        requires sized { Sized C.Code.ROWS (view_of B.Backplane C.Code self.old) }
+        requires shape { shape.now ≡ shape_for B.Backplane C.Code self.old }
+        requires live { (d : ℕ) → d < (view_of B.Backplane C.Code self.old).slots → (view_of B.Backplane C.Code self.old).live d ≡ true }
         ensures { Made (formatted_by shape.now zeros (header_bytes shape.now (first_of shape.now))) Same tt (Some (first_of shape.now)) (view_of B.Backplane C.Code self.old) result (view_of B.Backplane C.Code self.new) self.new.header }
     {
-        let header = first_header(shape.slots, shape.blocks);
+        let header = Header::first(shape);
         wipe(zero);
-        header.encode(shape, cell);
-        self.format_by(shape, header, zero, cell)
+        self.format_by(shape, header, zero, &header.cell(shape))
     }
 
     fn format_by(
         &mut self,
         shape: &Shape,
         header: Header,
-        zero: &[u8],
-        cell: &[u8],
+        zero: &Block,
+        cell: &Block,
     ) -> Result<(), ArrayFault>
-        requires header_value { self.old.header ≡ None }
-        requires self_value { (view_of B.Backplane C.Code self.old).on ≡ true }
-        requires sized { Sized C.Code.rows (view_of B.Backplane C.Code self.old) }
-        requires shape_value { shape.now ≡ shape_for B.Backplane C.Code self.old }
-        requires by_index { (d : ℕ) → d < (view_of B.Backplane C.Code self.old).slots → (view_of B.Backplane C.Code self.old).live d ≡ true }
-        requires zero_len { length zero.now ≡ 512 }
-        requires cell_len { length cell.now ≡ 512 }
+        requires held { self.old.header ≡ None }
+        requires power { (view_of B.Backplane C.Code self.old).on ≡ true }
+        requires sized { Sized C.Code.ROWS (view_of B.Backplane C.Code self.old) }
+        requires shape { shape.now ≡ shape_for B.Backplane C.Code self.old }
+        requires live { (d : ℕ) → d < (view_of B.Backplane C.Code self.old).slots → (view_of B.Backplane C.Code self.old).live d ≡ true }
         ensures { Made (formatted_by shape.now zero.now cell.now) Same tt (Some header) (view_of B.Backplane C.Code self.old) result (view_of B.Backplane C.Code self.new) self.new.header }
     {
         store_formatted(

@@ -2,7 +2,6 @@
 #![tactic(auto)]
 
 pub mod array;
-mod cells;
 pub mod clear;
 mod finish;
 pub mod fold;

@@ -9,6 +9,7 @@ ghost use Rattle.faults.specs.declared.fault.LogFault.TheVariants.{AtCell};
 ghost use Rattle.faults.specs.declared.fault.StripeFault.TheVariants.{AtBlock};
 
 use backplane::Backplane;
+use backplane::fault::Place;
 use faults::fault::{LogFault, StripeFault};
 
 pub(crate) fn put_cell<B: Backplane>(
@@ -19,7 +20,7 @@ pub(crate) fn put_cell<B: Backplane>(
     requires { fault_of (to_cell at bytes.now) (B.Backplane.view backplane.old) ≡ None }
     ensures { MatchResult result (λ _. B.Backplane.view backplane.new ≡ stored (to_cell at bytes.now) (B.Backplane.view backplane.old)) (λ f. (f ≡ AtCell (Cut (OfCell at))) × CutBy Sector (to_cell at bytes.now) (B.Backplane.view backplane.old) (B.Backplane.view backplane.new)) }
 {
-    backplane.store_cell(at, bytes)?;
+    backplane.store(Place::OfCell(at), bytes)?;
     Ok(())
 }
 
@@ -32,7 +33,7 @@ pub(crate) fn put_block<B: Backplane>(
     requires { fault_of (to_block slot block bytes.now) (B.Backplane.view backplane.old) ≡ None }
     ensures { MatchResult result (λ _. B.Backplane.view backplane.new ≡ stored (to_block slot block bytes.now) (B.Backplane.view backplane.old)) (λ f. (f ≡ AtBlock (Cut (OfBlock slot block))) × CutBy Sector (to_block slot block bytes.now) (B.Backplane.view backplane.old) (B.Backplane.view backplane.new)) }
 {
-    backplane.store_block(slot, block, bytes)?;
+    backplane.store(Place::OfBlock(slot, block), bytes)?;
     Ok(())
 }
 
@@ -41,7 +42,7 @@ pub(crate) fn get_cell<B: Backplane>(backplane: &mut B, at: u32, into: &mut [u8]
     ensures got { into.new ≡ (B.Backplane.view backplane.old).cell at }
     ensures kept { B.Backplane.view backplane.new ≡ B.Backplane.view backplane.old }
 {
-    backplane.read_cell(at, into).unwrap();
+    backplane.read(Place::OfCell(at), into).unwrap();
 }
 
 pub(crate) fn get_block<B: Backplane>(backplane: &mut B, slot: u32, block: u32, into: &mut [u8])
@@ -49,5 +50,5 @@ pub(crate) fn get_block<B: Backplane>(backplane: &mut B, slot: u32, block: u32, 
     ensures got { into.new ≡ (B.Backplane.view backplane.old).block slot block }
     ensures kept { B.Backplane.view backplane.new ≡ B.Backplane.view backplane.old }
 {
-    backplane.read_block(slot, block, into).unwrap();
+    backplane.read(Place::OfBlock(slot, block), into).unwrap();
 }

@@ -3,7 +3,8 @@ ghost use Rattle.std.specs.Prelude.{◌≡◌, ◌-◌, ◌*◌, ◌<◌, ◌≤
 ghost use Rattle.layout.specs.Stripes.{stripe_of, column_of};
 ghost use Rattle.model.specs.Rules.{Read, lost_in, row_of};
 ghost use Rattle.model.specs.Verdict.{of_block};
-ghost use Rattle.array.specs.Calls.{coding_on, view_of, coding_of, reply_of, wiped, Follows};
+ghost use Rattle.parity_log.specs.Codes.{coding_on};
+ghost use Rattle.array.specs.Calls.{view_of, coding_of, reply_of, wiped, Follows};
 ghost use Rattle.array.specs.Reads.{ColumnRead};
 ghost use Rattle.array.specs.Ready.{Opens};
 
@@ -60,10 +61,10 @@ impl<B: Backplane, C: Code> Array<B, C> {
         work: &mut [u8],
     ) -> Result<(), ArrayFault>
         requires started { Opens (coding_of B.Backplane C.Code self.old) (view_of B.Backplane C.Code self.old) started.now }
-        requires block { block < (view_of B.Backplane C.Code self.old).blocks * ((view_of B.Backplane C.Code self.old).slots - C.Code.rows) }
+        requires block { block < (view_of B.Backplane C.Code self.old).blocks * ((view_of B.Backplane C.Code self.old).slots - C.Code.ROWS) }
         requires size { length into.old ≡ 512 }
         requires room { 10240 ≤ length work.old }
-        ensures does { ColumnRead (coding_of B.Backplane C.Code self.old) (view_of B.Backplane C.Code self.old) started.now.header (stripe_of ((view_of B.Backplane C.Code self.old).slots - C.Code.rows) block) (column_of ((view_of B.Backplane C.Code self.old).slots - C.Code.rows) block) into.old result into.new }
+        ensures does { ColumnRead (coding_of B.Backplane C.Code self.old) (view_of B.Backplane C.Code self.old) started.now.header (stripe_of ((view_of B.Backplane C.Code self.old).slots - C.Code.ROWS) block) (column_of ((view_of B.Backplane C.Code self.old).slots - C.Code.ROWS) block) into.old result into.new }
         ensures plane { view_of B.Backplane C.Code self.new ≡ view_of B.Backplane C.Code self.old }
         ensures header { self.new.header ≡ self.old.header }
     {
@@ -91,11 +92,11 @@ fn read_column<B: Backplane, C: Code>(
     row: &mut Row,
     cell: &mut Block,
 ) -> Result<(), ArrayFault>
-    requires started { Opens (coding_on B.Backplane C.Code (B.Backplane.view plane.old)) (B.Backplane.view plane.old) started.now }
+    requires started { Opens (coding_on C.Code (B.Backplane.view plane.old)) (B.Backplane.view plane.old) started.now }
     requires stripe { stripe < (B.Backplane.view plane.old).blocks }
     requires column { column < started.now.shape.slots }
     requires size { length into.old ≡ 512 }
-    ensures does { ColumnRead (coding_on B.Backplane C.Code (B.Backplane.view plane.old)) (B.Backplane.view plane.old) started.now.header stripe column into.old result into.new }
+    ensures does { ColumnRead (coding_on C.Code (B.Backplane.view plane.old)) (B.Backplane.view plane.old) started.now.header stripe column into.old result into.new }
     ensures kept { B.Backplane.view plane.new ≡ B.Backplane.view plane.old }
 {
     if let Some(slot) = good_slot(plane, started, stripe, column) {
@@ -116,12 +117,12 @@ fn read_lost<B: Backplane, C: Code>(
     row: &mut Row,
     cell: &mut Block,
 )
-    requires started { Opens (coding_on B.Backplane C.Code (B.Backplane.view plane.old)) (B.Backplane.view plane.old) started.now }
+    requires started { Opens (coding_on C.Code (B.Backplane.view plane.old)) (B.Backplane.view plane.old) started.now }
     requires stripe { stripe < (B.Backplane.view plane.old).blocks }
     requires column { column < started.now.shape.slots }
-    requires repairable { lost_in (coding_on B.Backplane C.Code (B.Backplane.view plane.old)) (B.Backplane.view plane.old) started.now.header stripe ≤ C.Code.rows }
+    requires repairable { lost_in (coding_on C.Code (B.Backplane.view plane.old)) (B.Backplane.view plane.old) started.now.header stripe ≤ C.Code.ROWS }
     requires size { length into.old ≡ 512 }
-    ensures got { into.new ≡ row_of (coding_on B.Backplane C.Code (B.Backplane.view plane.old)) (B.Backplane.view plane.old) started.now.header stripe column }
+    ensures got { into.new ≡ row_of (coding_on C.Code (B.Backplane.view plane.old)) (B.Backplane.view plane.old) started.now.header stripe column }
     ensures kept { B.Backplane.view plane.new ≡ B.Backplane.view plane.old }
 {
     load_row::<B, C>(plane, started, stripe, row, cell);

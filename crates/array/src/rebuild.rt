@@ -4,15 +4,15 @@ ghost use Rattle.backplane.specs.Plane.{to_block, to_cell};
 ghost use Rattle.layout.specs.Header.{with_good, header_bytes};
 ghost use Rattle.model.specs.Rules.{Rebuild, lost_in, rebuilt};
 ghost use Rattle.model.specs.Verdict.{of_number};
-ghost use Rattle.array.specs.Calls.{coding_on, view_of, coding_of, shape_for, reply_of, wiped, Performed, Made, Same, Follows};
+ghost use Rattle.parity_log.specs.Codes.{coding_on};
+ghost use Rattle.array.specs.Calls.{view_of, coding_of, shape_for, reply_of, wiped, Performed, Made, Same, Follows};
 ghost use Rattle.array.specs.Ready.{Ready, Opens};
 ghost use Rattle.array.specs.Repairs.{NextStripe, repairs};
 
 use crate::array::{Array, WORK};
-use crate::cells::header_cell;
 use crate::parts::{Block, Parts, Row, split_work};
 use crate::places::{put_block, put_cell};
-use crate::row::{add_debt, check_repairable, load_row, row_column};
+use crate::row::{add_pending, check_repairable, load_row, row_column};
 use crate::started::Started;
 use backplane::Backplane;
 use backplane::fault::BackplaneFault;
@@ -63,7 +63,7 @@ impl<B: Backplane, C: Code> Array<B, C> {
         requires slot { slot < (view_of B.Backplane C.Code self.old).slots }
         requires live { (view_of B.Backplane C.Code self.old).live slot ≡ true }
         requires stripe { stripe < (view_of B.Backplane C.Code self.old).blocks }
-        requires repairable { lost_in (coding_of B.Backplane C.Code self.old) (view_of B.Backplane C.Code self.old) started.now.header stripe ≤ C.Code.rows }
+        requires repairable { lost_in (coding_of B.Backplane C.Code self.old) (view_of B.Backplane C.Code self.old) started.now.header stripe ≤ C.Code.ROWS }
         ensures { Made (repairs (coding_of B.Backplane C.Code self.old) (view_of B.Backplane C.Code self.old) started.now.header slot stripe ∷ []) Same (stripe + 1) (Some (with_good started.now.header slot (stripe + 1))) (view_of B.Backplane C.Code self.old) result (view_of B.Backplane C.Code self.new) self.new.header }
     {
         let Parts { row, cell, block } = parts;
@@ -81,14 +81,14 @@ impl<B: Backplane, C: Code> Array<B, C> {
         stripe: u32,
         block: &Block,
     ) -> Result<u32, ArrayFault>
-        requires ready { Ready C.Code.rows (view_of B.Backplane C.Code self.old) header }
+        requires ready { Ready C.Code.ROWS (view_of B.Backplane C.Code self.old) header }
         requires shape { shape.now ≡ shape_for B.Backplane C.Code self.old }
         requires slot { slot < (view_of B.Backplane C.Code self.old).slots }
         requires live { (view_of B.Backplane C.Code self.old).live slot ≡ true }
         requires stripe { stripe < (view_of B.Backplane C.Code self.old).blocks }
         ensures { Made ((to_block slot stripe block.now ∷ (to_cell 0 (header_bytes (shape_for B.Backplane C.Code self.old) header) ∷ [])) ∷ []) Same (stripe + 1) (Some header) (view_of B.Backplane C.Code self.old) result (view_of B.Backplane C.Code self.new) self.new.header }
     {
-        let cell = header_cell(shape, &header);
+        let cell = header.cell(shape);
         self.header = None;
         store_counted(&mut self.backplane, slot, stripe, block, &cell)?;
         self.header = Some(header);
@@ -102,9 +102,9 @@ fn next_stripe<B: Backplane, C: Code>(
     started: &Started,
     slot: u32,
 ) -> Result<u32, ArrayFault>
-    requires started { Opens (coding_on B.Backplane C.Code (B.Backplane.view plane.now)) (B.Backplane.view plane.now) started.now }
+    requires started { Opens (coding_on C.Code (B.Backplane.view plane.now)) (B.Backplane.view plane.now) started.now }
     requires slot { slot < 16 }
-    ensures { NextStripe (coding_on B.Backplane C.Code (B.Backplane.view plane.now)) (B.Backplane.view plane.now) started.now.header slot result }
+    ensures { NextStripe (coding_on C.Code (B.Backplane.view plane.now)) (B.Backplane.view plane.now) started.now.header slot result }
 {
     if !plane.live(slot) {
         return Err(ArrayFault::OfBackplane(BackplaneFault::Dead));
@@ -127,16 +127,16 @@ fn find_block<B: Backplane, C: Code>(
     row: &mut Row,
     cell: &mut Block,
 )
-    requires started { Opens (coding_on B.Backplane C.Code (B.Backplane.view plane.old)) (B.Backplane.view plane.old) started.now }
+    requires started { Opens (coding_on C.Code (B.Backplane.view plane.old)) (B.Backplane.view plane.old) started.now }
     requires slot { slot < (B.Backplane.view plane.old).slots }
     requires stripe { stripe < (B.Backplane.view plane.old).blocks }
-    requires repairable { lost_in (coding_on B.Backplane C.Code (B.Backplane.view plane.old)) (B.Backplane.view plane.old) started.now.header stripe ≤ C.Code.rows }
-    ensures found { block.new ≡ rebuilt (coding_on B.Backplane C.Code (B.Backplane.view plane.old)) (B.Backplane.view plane.old) started.now.header slot stripe }
+    requires repairable { lost_in (coding_on C.Code (B.Backplane.view plane.old)) (B.Backplane.view plane.old) started.now.header stripe ≤ C.Code.ROWS }
+    ensures found { block.new ≡ rebuilt (coding_on C.Code (B.Backplane.view plane.old)) (B.Backplane.view plane.old) started.now.header slot stripe }
     ensures kept { B.Backplane.view plane.new ≡ B.Backplane.view plane.old }
 {
     let column = column_on(started.shape.slots, stripe, slot);
     load_row::<B, C>(plane, started, stripe, row, cell);
-    add_debt::<B, C>(plane, started, stripe, column, row, cell);
+    add_pending::<B, C>(plane, started, stripe, column, row, cell);
     block.copy_from_slice(row_column(row, column));
 }
 

@@ -1,9 +1,10 @@
 // What the log's records say, read where it is known to be readable.
 ghost use Rattle.std.specs.Prelude.{◌≡◌, ◌+◌, ◌-◌, ◌*◌, nat_lt};
+ghost use Rattle.parity_log.specs.Pending.{with_write};
 ghost use Rattle.parity_log.specs.Walks.{LastAt};
 ghost use Rattle.model.specs.Log.{walk, owed};
 ghost use Rattle.model.specs.Rules.{log_of, too_full};
-ghost use Rattle.array.specs.Calls.{coding_on};
+ghost use Rattle.parity_log.specs.Codes.{coding_on};
 ghost use Rattle.array.specs.Ready.{Opens};
 ghost use Rattle.array.specs.Starts.{Walks, ToFinish};
 
@@ -14,12 +15,10 @@ use backplane::Backplane;
 use codes::Code;
 use faults::fault::LogFault;
 use layout::head::{Head, decode_head};
-use parity_log::owing::count_owing;
-use parity_log::walk::walk_log;
 
 // Whether so many cells more, and then so many parity records, would end past the last cell.
 pub(crate) fn lacks_room<C: Code>(started: &Started, more: u32, records: u32) -> bool
-    ensures { result ≡ nat_lt (started.now.shape.cells - 1) (started.now.header.used + more + (1 + C.Code.rows) * records) }
+    ensures { result ≡ nat_lt (started.now.shape.cells - 1) (started.now.header.used + more + (1 + C.Code.ROWS) * records) }
 {
     let record = 1 + check_columns::<C>() as u64;
     let end = started.header.used as u64 + more as u64 + record * records as u64;
@@ -28,9 +27,9 @@ pub(crate) fn lacks_room<C: Code>(started: &Started, more: u32, records: u32) ->
 
 // The check columns, one for each check row.
 pub(crate) fn check_columns<C: Code>() -> u8
-    ensures { result ≡ C.Code.rows }
+    ensures { result ≡ C.Code.ROWS }
 {
-    C::check_rows() as u8
+    C::ROWS as u8
 }
 
 // Whether the log has no room for the parity records that it owes, one for each stripe with pending records.
@@ -40,61 +39,60 @@ pub(crate) fn is_overfull<B: Backplane, C: Code>(
     map: &mut Row,
     cell: &mut Block,
 ) -> bool
-    requires { Opens (coding_on B.Backplane C.Code (B.Backplane.view plane.old)) (B.Backplane.view plane.old) started.now }
-    ensures value { result ≡ too_full (coding_on B.Backplane C.Code (B.Backplane.view plane.old)) (B.Backplane.view plane.old) started.now.header 0 (log_of (coding_on B.Backplane C.Code (B.Backplane.view plane.old)) (B.Backplane.view plane.old) started.now.header) }
+    requires { Opens (coding_on C.Code (B.Backplane.view plane.old)) (B.Backplane.view plane.old) started.now }
+    ensures value { result ≡ too_full (coding_on C.Code (B.Backplane.view plane.old)) (B.Backplane.view plane.old) started.now.header 0 (log_of (coding_on C.Code (B.Backplane.view plane.old)) (B.Backplane.view plane.old) started.now.header) }
     ensures kept { B.Backplane.view plane.new ≡ B.Backplane.view plane.old }
 {
-    let owing = count_pending::<B, C>(plane, started, map, cell);
-    lacks_room::<C>(started, 0, owing)
+    let pending = count_pending::<B, C>(plane, started, None, map, cell);
+    lacks_room::<C>(started, 0, pending)
 }
 
-// How many stripes have pending records.
-fn count_pending<B: Backplane, C: Code>(
+// How many stripes have pending records, in the log as it is or with one more write record of a stripe.
+pub(crate) fn count_pending<B: Backplane, C: Code>(
     plane: &mut B,
     started: &Started,
+    more: Option<u32>,
     map: &mut Row,
     cell: &mut Block,
 ) -> u32
-    requires { Opens (coding_on B.Backplane C.Code (B.Backplane.view plane.old)) (B.Backplane.view plane.old) started.now }
-    ensures value { result ≡ owed (coding_on B.Backplane C.Code (B.Backplane.view plane.old)) (B.Backplane.view plane.old).blocks (log_of (coding_on B.Backplane C.Code (B.Backplane.view plane.old)) (B.Backplane.view plane.old) started.now.header) }
+    requires { Opens (coding_on C.Code (B.Backplane.view plane.old)) (B.Backplane.view plane.old) started.now }
+    ensures value { result ≡ owed (coding_on C.Code (B.Backplane.view plane.old)) (B.Backplane.view plane.old).blocks (with_write more (log_of (coding_on C.Code (B.Backplane.view plane.old)) (B.Backplane.view plane.old) started.now.header)) }
     ensures kept { B.Backplane.view plane.new ≡ B.Backplane.view plane.old }
 {
-    count_owing::<B, C>(plane, started.shape.columns, started.header.used, map, cell).unwrap()
+    started
+        .log()
+        .count_pending_stripes::<B, C>(plane, more, map, cell)
+        .unwrap()
 }
 
-// Walks over the log: the cell of its last head, 0 in an empty log.
+// Walks over the log: the cell of its last head, if it has one.
 pub(crate) fn last_head<B: Backplane, C: Code>(
     plane: &mut B,
     started: &Started,
     cell: &mut Block,
-) -> Result<u32, LogFault>
-    requires { Opens (coding_on B.Backplane C.Code (B.Backplane.view plane.old)) (B.Backplane.view plane.old) started.now }
-    ensures walked { Walks (coding_on B.Backplane C.Code (B.Backplane.view plane.old)) (B.Backplane.view plane.old) started.now.header.used result }
+) -> Result<Option<u32>, LogFault>
+    requires { Opens (coding_on C.Code (B.Backplane.view plane.old)) (B.Backplane.view plane.old) started.now }
+    ensures walked { Walks (coding_on C.Code (B.Backplane.view plane.old)) (B.Backplane.view plane.old) started.now.header.used result }
     ensures kept { B.Backplane.view plane.new ≡ B.Backplane.view plane.old }
 {
-    match walk_log::<B, C>(plane, started.shape.columns, started.header.used, cell) {
-        Ok(at) => Ok(at),
-        Err(LogFault::Damaged(at)) => Err(LogFault::Damaged(at)),
-        Err(_) => unreachable(),
-    }
+    started.log().walk::<B, C>(plane, cell)
 }
 
-// The head of the last record, which is in cell `at`; none in an empty log.
+// The cell and the head of the last record, by the cell that the walk found.
 pub(crate) fn last_record<B: Backplane, C: Code>(
     plane: &mut B,
     started: &Started,
-    at: u32,
+    last: Option<u32>,
     cell: &mut Block,
-) -> Option<Head>
-    requires started { Opens (coding_on B.Backplane C.Code (B.Backplane.view plane.old)) (B.Backplane.view plane.old) started.now }
-    requires last { LastAt (coding_on B.Backplane C.Code (B.Backplane.view plane.old)) (B.Backplane.view plane.old) started.now.header.used at (log_of (coding_on B.Backplane C.Code (B.Backplane.view plane.old)) (B.Backplane.view plane.old) started.now.header) }
-    ensures value { ToFinish (coding_on B.Backplane C.Code (B.Backplane.view plane.old)) (B.Backplane.view plane.old) started.now.header at result }
+) -> Option<(u32, Head)>
+    requires started { Opens (coding_on C.Code (B.Backplane.view plane.old)) (B.Backplane.view plane.old) started.now }
+    requires last { LastAt (coding_on C.Code (B.Backplane.view plane.old)) (B.Backplane.view plane.old) started.now.header.used last (log_of (coding_on C.Code (B.Backplane.view plane.old)) (B.Backplane.view plane.old) started.now.header) }
+    ensures value { ToFinish (coding_on C.Code (B.Backplane.view plane.old)) (B.Backplane.view plane.old) started.now.header result }
     ensures kept { B.Backplane.view plane.new ≡ B.Backplane.view plane.old }
 {
-    if at == 0 {
-        return None;
-    }
+    let at = last?;
     get_cell(plane, at, cell);
     let stripes = plane.blocks();
-    decode_head(started.shape.columns, stripes, cell)
+    let head = decode_head(started.shape.columns, stripes, cell)?;
+    Some((at, head))
 }

@@ -6,7 +6,8 @@ ghost use Rattle.model.specs.Row.{good_at, settled_with};
 ghost use Rattle.model.specs.Rules.{good_of, log_of, lost_in, row_of};
 ghost use Rattle.rows.specs.Columns.{column_in};
 ghost use Rattle.rows.specs.Rows.{HoldsRow};
-ghost use Rattle.array.specs.Calls.{coding_on, Performed};
+ghost use Rattle.parity_log.specs.Codes.{coding_on};
+ghost use Rattle.array.specs.Calls.{Performed};
 ghost use Rattle.array.specs.Ready.{Fits, Opens};
 ghost use Rattle.array.specs.Repairs.{Repairable};
 ghost use Rattle.array.specs.Starts.{to_good};
@@ -18,10 +19,8 @@ use backplane::Backplane;
 use codes::Code;
 use faults::fault::{ArrayFault, StripeFault};
 use layout::blocks::sum_into;
-use layout::header::Header;
 use layout::stripes::{locate, place};
-use rows::lost::count_lost;
-use rows::row::{row_of_stripe, settle_column};
+use rows::row::{add_pending_to_column, row_of_stripe};
 
 // The stripe and the column of a block that there is.
 pub(crate) fn locate_block<B: Backplane, C: Code>(
@@ -29,10 +28,10 @@ pub(crate) fn locate_block<B: Backplane, C: Code>(
     started: &Started,
     block: u32,
 ) -> (u32, u8)
-    requires started { Opens (coding_on B.Backplane C.Code (B.Backplane.view plane.now)) (B.Backplane.view plane.now) started.now }
-    requires block { block < (B.Backplane.view plane.now).blocks * ((B.Backplane.view plane.now).slots - C.Code.rows) }
-    ensures stripe { result.0 ≡ stripe_of ((B.Backplane.view plane.now).slots - C.Code.rows) block }
-    ensures column { result.1 ≡ column_of ((B.Backplane.view plane.now).slots - C.Code.rows) block }
+    requires started { Opens (coding_on C.Code (B.Backplane.view plane.now)) (B.Backplane.view plane.now) started.now }
+    requires block { block < (B.Backplane.view plane.now).blocks * ((B.Backplane.view plane.now).slots - C.Code.ROWS) }
+    ensures stripe { result.0 ≡ stripe_of ((B.Backplane.view plane.now).slots - C.Code.ROWS) block }
+    ensures column { result.1 ≡ column_of ((B.Backplane.view plane.now).slots - C.Code.ROWS) block }
     ensures within { result.0 < (B.Backplane.view plane.now).blocks }
     ensures below { result.1 < started.now.shape.slots }
 {
@@ -45,11 +44,11 @@ pub(crate) fn check_repairable<B: Backplane, C: Code>(
     started: &Started,
     stripe: u32,
 ) -> Result<(), StripeFault>
-    requires { Opens (coding_on B.Backplane C.Code (B.Backplane.view plane.now)) (B.Backplane.view plane.now) started.now }
-    ensures { Repairable (coding_on B.Backplane C.Code (B.Backplane.view plane.now)) (B.Backplane.view plane.now) started.now.header stripe result }
+    requires { Opens (coding_on C.Code (B.Backplane.view plane.now)) (B.Backplane.view plane.now) started.now }
+    ensures { Repairable (coding_on C.Code (B.Backplane.view plane.now)) (B.Backplane.view plane.now) started.now.header stripe result }
 {
-    let lost = count_lost(plane, started.shape.slots, &started.header, stripe);
-    if lost as usize > C::check_rows() {
+    let lost = started.stripe(stripe).count_lost(plane);
+    if lost as usize > C::ROWS {
         return Err(StripeFault::PastRepair(stripe, lost));
     }
     Ok(())
@@ -67,21 +66,10 @@ pub(crate) fn good_slot<B: Backplane>(
     ensures live { IfSome result (λ d. (d < (B.Backplane.view plane.now).slots) × ((B.Backplane.view plane.now).live d ≡ true)) }
 {
     let (slot, _) = place(started.shape.slots, stripe, column);
-    if plane.live(slot) & (stripe < good_stripes(&started.header, slot)) {
+    if plane.live(slot) & (stripe < started.stripe(stripe).good_stripes(slot)) {
         Some(slot)
     } else {
         None
-    }
-}
-
-// The good stripes of a slot, none past the last slot.
-fn good_stripes(header: &Header, slot: u32) -> u32
-    ensures { result ≡ good_of header.now slot }
-{
-    if slot < 16 {
-        header.good[slot as usize]
-    } else {
-        0
     }
 }
 
@@ -112,20 +100,17 @@ pub(crate) fn load_row<B: Backplane, C: Code>(
     row: &mut Row,
     cell: &mut Block,
 )
-    requires started { Opens (coding_on B.Backplane C.Code (B.Backplane.view plane.old)) (B.Backplane.view plane.old) started.now }
+    requires started { Opens (coding_on C.Code (B.Backplane.view plane.old)) (B.Backplane.view plane.old) started.now }
     requires stripe { stripe < (B.Backplane.view plane.old).blocks }
-    requires repairable { lost_in (coding_on B.Backplane C.Code (B.Backplane.view plane.old)) (B.Backplane.view plane.old) started.now.header stripe ≤ C.Code.rows }
-    ensures holds { HoldsRow (coding_on B.Backplane C.Code (B.Backplane.view plane.old)) (B.Backplane.view plane.old) started.now.header stripe row.new }
+    requires repairable { lost_in (coding_on C.Code (B.Backplane.view plane.old)) (B.Backplane.view plane.old) started.now.header stripe ≤ C.Code.ROWS }
+    ensures holds { HoldsRow (coding_on C.Code (B.Backplane.view plane.old)) (B.Backplane.view plane.old) started.now.header stripe row.new }
     ensures kept { B.Backplane.view plane.new ≡ B.Backplane.view plane.old }
 {
-    match row_of_stripe::<B, C>(plane, &started.header, stripe, row, cell) {
-        Ok(true) => {}
-        _ => unreachable(),
-    }
+    row_of_stripe::<B, C>(plane, &started.header, stripe, row, cell).unwrap();
 }
 
 // Adds the shares of the pending deltas to a column of the row, if that is a check column.
-pub(crate) fn add_debt<B: Backplane, C: Code>(
+pub(crate) fn add_pending<B: Backplane, C: Code>(
     plane: &mut B,
     started: &Started,
     stripe: u32,
@@ -133,15 +118,12 @@ pub(crate) fn add_debt<B: Backplane, C: Code>(
     row: &mut Row,
     cell: &mut Block,
 )
-    requires started { Opens (coding_on B.Backplane C.Code (B.Backplane.view plane.old)) (B.Backplane.view plane.old) started.now }
+    requires started { Opens (coding_on C.Code (B.Backplane.view plane.old)) (B.Backplane.view plane.old) started.now }
     requires column { column < started.now.shape.slots }
-    ensures settled { column_in row.new column ≡ settled_with (coding_on B.Backplane C.Code (B.Backplane.view plane.old)) (log_of (coding_on B.Backplane C.Code (B.Backplane.view plane.old)) (B.Backplane.view plane.old) started.now.header) stripe column (column_in row.old column) }
+    ensures settled { column_in row.new column ≡ settled_with (coding_on C.Code (B.Backplane.view plane.old)) (log_of (coding_on C.Code (B.Backplane.view plane.old)) (B.Backplane.view plane.old) started.now.header) stripe column (column_in row.old column) }
     ensures kept { B.Backplane.view plane.new ≡ B.Backplane.view plane.old }
 {
-    match settle_column::<B, C>(plane, &started.header, stripe, column, row, cell) {
-        Ok(true) => {}
-        _ => unreachable(),
-    }
+    add_pending_to_column::<B, C>(plane, &started.header, stripe, column, row, cell).unwrap();
 }
 
 // A column of the row.

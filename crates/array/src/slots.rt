@@ -64,7 +64,7 @@ impl<B: Backplane, C: Code> Array<B, C> {
 
     // The store of cell 0 comes first, so that a disk of other bytes is never taken for good.
     fn fit_out(&mut self, shape: &Shape, header: Header, slot: u32) -> Result<(), ArrayFault>
-        requires ready { Ready C.Code.rows (view_of B.Backplane C.Code self.old) header }
+        requires ready { Ready C.Code.ROWS (view_of B.Backplane C.Code self.old) header }
         requires shape { shape.now ≡ shape_for B.Backplane C.Code self.old }
         requires slot { slot < (view_of B.Backplane C.Code self.old).slots }
         requires dead { (view_of B.Backplane C.Code self.old).live slot ≡ false }

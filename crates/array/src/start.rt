@@ -3,7 +3,8 @@ ghost use Rattle.std.specs.Prelude.{◌≡◌, ◌≤◌, true, length, IfSome, 
 ghost use Rattle.layout.specs.Header.{header_of};
 ghost use Rattle.parity_log.specs.Walks.{LastAt};
 ghost use Rattle.model.specs.Rules.{Start, shape_of, is_good, log_of, finish_last, start_open};
-ghost use Rattle.array.specs.Calls.{view_of, coding_on, coding_of, acked, reply_of, wiped, Performed, held_after, Ended, Follows};
+ghost use Rattle.parity_log.specs.Codes.{coding_on};
+ghost use Rattle.array.specs.Calls.{view_of, coding_of, acked, reply_of, wiped, Performed, held_after, Ended, Follows};
 ghost use Rattle.array.specs.Ready.{Sized, Opens};
 ghost use Rattle.array.specs.Starts.{start_on};
 
@@ -78,7 +79,7 @@ impl<B: Backplane, C: Code> Array<B, C> {
     fn finish_start(
         &mut self,
         started: &Started,
-        last: u32,
+        last: Option<u32>,
         cell: &mut Block,
     ) -> Result<(), ArrayFault>
         requires held { self.old.header ≡ None }
@@ -100,14 +101,14 @@ fn read_header<B: Backplane, C: Code>(
     cell: &mut Block,
 ) -> Option<Started>
     requires power { (B.Backplane.view plane.old).on ≡ true }
-    requires sized { Sized C.Code.rows (B.Backplane.view plane.old) }
-    requires shape { shape ≡ shape_of (coding_on B.Backplane C.Code (B.Backplane.view plane.old)) (B.Backplane.view plane.old) }
-    ensures value { MatchOption result (None ≡ header_of C.Code.rows shape ((B.Backplane.view plane.old).cell 0)) (λ s. Some s.header ≡ header_of C.Code.rows shape ((B.Backplane.view plane.old).cell 0)) }
-    ensures started { IfSome result (λ s. Opens (coding_on B.Backplane C.Code (B.Backplane.view plane.old)) (B.Backplane.view plane.old) s) }
+    requires sized { Sized C.Code.ROWS (B.Backplane.view plane.old) }
+    requires shape { shape ≡ shape_of (coding_on C.Code (B.Backplane.view plane.old)) (B.Backplane.view plane.old) }
+    ensures value { MatchOption result (None ≡ header_of C.Code.ROWS shape ((B.Backplane.view plane.old).cell 0)) (λ s. Some s.header ≡ header_of C.Code.ROWS shape ((B.Backplane.view plane.old).cell 0)) }
+    ensures started { IfSome result (λ s. Opens (coding_on C.Code (B.Backplane.view plane.old)) (B.Backplane.view plane.old) s) }
     ensures kept { B.Backplane.view plane.new ≡ B.Backplane.view plane.old }
 {
     get_cell(plane, 0, cell);
-    match Header::decode(&shape, C::check_rows() as u32, cell) {
+    match Header::decode(&shape, C::ROWS as u32, cell) {
         Some(header) => Some(Started { header, shape }),
         None => None,
     }

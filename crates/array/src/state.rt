@@ -5,7 +5,6 @@ ghost use Rattle.array.specs.Calls.{view_of, coding_of, shape_for, limited, open
 ghost use Rattle.array.specs.Ready.{Sized, Ready, Opens};
 
 use crate::array::Array;
-use crate::cells::header_cell;
 use crate::places::put_cell;
 use crate::started::Started;
 use backplane::Backplane;
@@ -30,13 +29,9 @@ impl<B: Backplane, C: Code> Array<B, C> {
     pub fn shape(&self) -> Option<Shape>
         ensures value { result ≡ (if limited B.Backplane C.Code self.now then Some (shape_for B.Backplane C.Code self.now) else None) }
         ensures cases { MatchOption result (limited B.Backplane C.Code self.now ≡ false) (λ s. (limited B.Backplane C.Code self.now ≡ true) × (s ≡ shape_for B.Backplane C.Code self.now)) }
-        ensures sized { OnSome result (Sized C.Code.rows (view_of B.Backplane C.Code self.now)) }
+        ensures sized { OnSome result (Sized C.Code.ROWS (view_of B.Backplane C.Code self.now)) }
     {
-        let rows = C::check_rows() as u32;
-        let slots = self.backplane.slots();
-        let blocks = self.backplane.blocks();
-        let cells = self.backplane.cells();
-        Shape::of(C::code_number(), rows, slots, blocks, cells)
+        Shape::of(C::NUMBER, C::ROWS as u32, self.backplane.sizes())
     }
 
     // What a started array goes by: the header held, if the power is on and the header fits the backplane.
@@ -71,12 +66,9 @@ impl<B: Backplane, C: Code> Array<B, C> {
 
     // Whether there is a block of this number: each stripe holds one for each slot beyond the checks.
     pub(crate) fn has_block(&self, block: u32) -> bool
-        ensures { result ≡ nat_lt block ((view_of B.Backplane C.Code self.now).blocks * ((view_of B.Backplane C.Code self.now).slots - C.Code.rows)) }
+        ensures { result ≡ nat_lt block ((view_of B.Backplane C.Code self.now).blocks * ((view_of B.Backplane C.Code self.now).slots - C.Code.ROWS)) }
     {
-        let columns = self
-            .backplane
-            .slots()
-            .saturating_sub(C::check_rows() as u32);
+        let columns = self.backplane.slots().saturating_sub(C::ROWS as u32);
         (block as u64) < self.backplane.blocks() as u64 * columns as u64
     }
 
@@ -88,12 +80,12 @@ impl<B: Backplane, C: Code> Array<B, C> {
 
     // Stores a header in cell 0; the array then holds it, and none after a cut.
     pub(crate) fn store_header(&mut self, shape: &Shape, header: Header) -> Result<(), ArrayFault>
-        requires ready { Ready C.Code.rows (view_of B.Backplane C.Code self.old) header }
+        requires ready { Ready C.Code.ROWS (view_of B.Backplane C.Code self.old) header }
         requires shape { shape.now ≡ shape_for B.Backplane C.Code self.old }
         ensures stores { Performed (to_header (coding_of B.Backplane C.Code self.old) (view_of B.Backplane C.Code self.old) header ∷ []) (view_of B.Backplane C.Code self.old) result (view_of B.Backplane C.Code self.new) }
         ensures held { self.new.header ≡ held_after header result }
     {
-        let cell = header_cell(shape, &header);
+        let cell = header.cell(shape);
         self.header = None;
         put_cell(&mut self.backplane, 0, &cell)?;
         self.header = Some(header);

@@ -4,16 +4,16 @@ ghost use Rattle.layout.specs.Bytes.{sum_of};
 ghost use Rattle.layout.specs.Stripes.{stripe_of, column_of};
 ghost use Rattle.model.specs.Log.{write, owed};
 ghost use Rattle.model.specs.Rules.{Write, log_of, lost_in, row_of, grown, write_open};
-ghost use Rattle.array.specs.Calls.{coding_on, view_of, coding_of, acked, reply_of, wiped, Made, Same, Ended, Follows};
+ghost use Rattle.parity_log.specs.Codes.{coding_on};
+ghost use Rattle.array.specs.Calls.{view_of, coding_of, acked, reply_of, wiped, Made, Same, Ended, Follows};
 ghost use Rattle.array.specs.Ready.{Fits, Opens};
 ghost use Rattle.array.specs.Records.{appending, write_stores};
 ghost use Rattle.array.specs.Writes.{WriteJudged};
 
 use crate::array::{Array, WORK};
-use crate::cells::{head_cell, header_cell};
 use crate::parts::{BLOCK, Block, Parts, Row, split_work};
 use crate::record::store_write;
-use crate::records::lacks_room;
+use crate::records::{count_pending, lacks_room};
 use crate::row::{check_repairable, load_row, locate_block, row_column};
 use crate::started::Started;
 use backplane::Backplane;
@@ -22,7 +22,6 @@ use faults::fault::{ArrayFault, LogFault, StripeFault};
 use layout::blocks::{WorkArea, sum_into};
 use layout::head::Head;
 use layout::header::Header;
-use parity_log::owing::count_owing_with;
 
 impl<B: Backplane, C: Code> Array<B, C> {
     // Writes 512 bytes to the block of this number. Once that is acknowledged no power cut undoes it.
@@ -65,10 +64,10 @@ impl<B: Backplane, C: Code> Array<B, C> {
         work: &mut [u8],
     ) -> Result<(), ArrayFault>
         requires started { Opens (coding_of B.Backplane C.Code self.old) (view_of B.Backplane C.Code self.old) started.now }
-        requires block { block < (view_of B.Backplane C.Code self.old).blocks * ((view_of B.Backplane C.Code self.old).slots - C.Code.rows) }
+        requires block { block < (view_of B.Backplane C.Code self.old).blocks * ((view_of B.Backplane C.Code self.old).slots - C.Code.ROWS) }
         requires size { length bytes.now ≡ 512 }
         requires room { 10240 ≤ length work.old }
-        ensures { Ended B.Backplane C.Code (write_open (coding_of B.Backplane C.Code self.old) (view_of B.Backplane C.Code self.old) started.now.header (stripe_of ((view_of B.Backplane C.Code self.old).slots - C.Code.rows) block) (column_of ((view_of B.Backplane C.Code self.old).slots - C.Code.rows) block) bytes.now) self.old (reply_of acked result) self.new }
+        ensures { Ended B.Backplane C.Code (write_open (coding_of B.Backplane C.Code self.old) (view_of B.Backplane C.Code self.old) started.now.header (stripe_of ((view_of B.Backplane C.Code self.old).slots - C.Code.ROWS) block) (column_of ((view_of B.Backplane C.Code self.old).slots - C.Code.ROWS) block) bytes.now) self.old (reply_of acked result) self.new }
     {
         let (stripe, column) = locate_block::<B, C>(&self.backplane, started, block);
         self.write_column(started, stripe, column, bytes, split_work(work))
@@ -119,9 +118,9 @@ impl<B: Backplane, C: Code> Array<B, C> {
         requires size { length bytes.now ≡ 512 }
         ensures { Made (appending (coding_of B.Backplane C.Code self.old) (view_of B.Backplane C.Code self.old) started.now.header (write stripe column delta.now bytes.now)) Same tt (Some (grown (coding_of B.Backplane C.Code self.old) (view_of B.Backplane C.Code self.old) started.now.header (write stripe column delta.now bytes.now))) (view_of B.Backplane C.Code self.old) result (view_of B.Backplane C.Code self.new) self.new.header }
     {
-        let head = head_cell(Head::OfWrite(stripe, column));
+        let head = Head::OfWrite(stripe, column).cell();
         let counted = started.header.with_used(started.header.used + 3);
-        let cell = header_cell(&started.shape, &counted);
+        let cell = counted.cell(&started.shape);
         self.store_counted(started, counted, stripe, column, &head, delta, bytes, &cell)
     }
 
@@ -167,33 +166,17 @@ fn judge_write<B: Backplane, C: Code>(
     map: &mut Row,
     cell: &mut Block,
 ) -> Result<(), ArrayFault>
-    requires { Opens (coding_on B.Backplane C.Code (B.Backplane.view plane.old)) (B.Backplane.view plane.old) started.now }
-    ensures judged { WriteJudged (coding_on B.Backplane C.Code (B.Backplane.view plane.old)) (B.Backplane.view plane.old) started.now.header stripe result }
+    requires { Opens (coding_on C.Code (B.Backplane.view plane.old)) (B.Backplane.view plane.old) started.now }
+    ensures judged { WriteJudged (coding_on C.Code (B.Backplane.view plane.old)) (B.Backplane.view plane.old) started.now.header stripe result }
     ensures kept { B.Backplane.view plane.new ≡ B.Backplane.view plane.old }
 {
     check_repairable::<B, C>(plane, started, stripe)?;
-    let owing = count_with::<B, C>(plane, started, stripe, map, cell);
-    if lacks_room::<C>(started, 3, owing) {
+    let pending = count_pending::<B, C>(plane, started, Some(stripe), map, cell);
+    if lacks_room::<C>(started, 3, pending) {
         let last = plane.cells() - 1;
         return Err(ArrayFault::OfLog(LogFault::Full(last - started.header.used)));
     }
     Ok(())
-}
-
-// How many stripes have pending records once there is one more write record, of this stripe.
-fn count_with<B: Backplane, C: Code>(
-    plane: &mut B,
-    started: &Started,
-    stripe: u32,
-    map: &mut Row,
-    cell: &mut Block,
-) -> u32
-    requires { Opens (coding_on B.Backplane C.Code (B.Backplane.view plane.old)) (B.Backplane.view plane.old) started.now }
-    ensures value { (c : ℕ) (x y : List ℕ) → result ≡ owed (coding_on B.Backplane C.Code (B.Backplane.view plane.old)) (B.Backplane.view plane.old).blocks (write stripe c x y ∷ log_of (coding_on B.Backplane C.Code (B.Backplane.view plane.old)) (B.Backplane.view plane.old) started.now.header) }
-    ensures kept { B.Backplane.view plane.new ≡ B.Backplane.view plane.old }
-{
-    let k = started.shape.columns;
-    count_owing_with::<B, C>(plane, k, started.header.used, stripe, map, cell).unwrap()
 }
 
 // Leaves the sum of the old block, which is found in the row, and the new one.
@@ -207,12 +190,12 @@ fn find_delta<B: Backplane, C: Code>(
     row: &mut Row,
     cell: &mut Block,
 )
-    requires started { Opens (coding_on B.Backplane C.Code (B.Backplane.view plane.old)) (B.Backplane.view plane.old) started.now }
+    requires started { Opens (coding_on C.Code (B.Backplane.view plane.old)) (B.Backplane.view plane.old) started.now }
     requires stripe { stripe < (B.Backplane.view plane.old).blocks }
     requires column { column < started.now.shape.slots }
-    requires repairable { lost_in (coding_on B.Backplane C.Code (B.Backplane.view plane.old)) (B.Backplane.view plane.old) started.now.header stripe ≤ C.Code.rows }
+    requires repairable { lost_in (coding_on C.Code (B.Backplane.view plane.old)) (B.Backplane.view plane.old) started.now.header stripe ≤ C.Code.ROWS }
     requires size { length bytes.now ≡ 512 }
-    ensures found { delta.new ≡ sum_of (row_of (coding_on B.Backplane C.Code (B.Backplane.view plane.old)) (B.Backplane.view plane.old) started.now.header stripe column) bytes.now }
+    ensures found { delta.new ≡ sum_of (row_of (coding_on C.Code (B.Backplane.view plane.old)) (B.Backplane.view plane.old) started.now.header stripe column) bytes.now }
     ensures kept { B.Backplane.view plane.new ≡ B.Backplane.view plane.old }
 {
     load_row::<B, C>(plane, started, stripe, row, cell);

@@ -6,10 +6,12 @@ use crate::reference::device::Device;
 use crate::source::Source;
 use array::array::Array;
 use backplane::Backplane;
+use backplane::fault::Place;
 use backplane::sizes::Sizes;
 use codes::Code;
 use faults::fault::ArrayFault;
 use faults::told;
+use faults::told::Told;
 use fuse::Fuse;
 use memory::Memory;
 use std::alloc::{AllocError, Global};
@@ -323,7 +325,7 @@ impl<C: Code + Drop> Pair<'_, C> {
         if let Some(b) = x.get_mut(place) {
             *b = source.byte() % 4;
         }
-        if self.array.backplane.store_cell(cell, &x).is_ok() {
+        if self.array.backplane.store(Place::OfCell(cell), &x).is_ok() {
             self.reference.device.set_cell(cell as usize, x);
         }
     }
@@ -355,7 +357,7 @@ fn compare_list<C: Code + Drop>(
     let mut bytes = vec![in heap; 0u8; places.saturating_mul(512)]?;
     let mut work = [7u8; 10240];
     let device = Device::new(heap, slots as usize, blocks as usize, cells as usize)?;
-    let memory = Memory::new(bytes.as_mut_slice(), slots, blocks, cells);
+    let memory = Memory::new(bytes.as_mut_slice(), sizes);
     let mut both = Pair {
         array: Array::new(Fuse::new(memory), code),
         reference: Reference::new(device, C::check_rows()),

@@ -74,7 +74,7 @@ fn slice_at(row: &[Block; 16], i: usize) -> [u8; 16] {
 // Whether the first `n` bytes of a row are solved.
 fn solves<C: Code>(k: usize, n: usize, row: &mut [u8], lost: &[bool]) -> bool {
     match row.get_mut(..n) {
-        Some(bytes) => C::solve(k, bytes, lost),
+        Some(bytes) => C::solve(k, bytes, lost).is_ok(),
         None => false,
     }
 }

@@ -4,8 +4,10 @@
 #[cfg(test)]
 mod tests {
     use array::array::Array;
+    use backplane::sizes::Sizes;
     use codes::{Code, DoubleParity, SingleParity, encode, restore};
     use faults::fault::ArrayFault;
+    use faults::told::Told;
     use field::{double, inverse, logarithm, power, product};
     use layout::stripes::{locate, place};
     use memory::Memory;
@@ -13,17 +15,22 @@ mod tests {
     use std::test::Fail;
 
     // What a call answers: of a refusal its number and its first detail.
-    type Told = Result<(), (u32, u32)>;
+    type Outcome = Result<(), (u32, u32)>;
 
-    fn told(r: Result<(), ArrayFault>) -> Told {
+    fn told(r: Result<(), ArrayFault>) -> Outcome {
         r.map_err(|fault| (fault.number(), fault.details().0))
     }
 
     // An array of 4 disks with 8 blocks each is formatted, and then written to: what each of these calls answers. A write has a block number and a length.
-    fn answers(heap: Global, cells: u32, writes: &[(u32, usize)]) -> Result<Vec<Told>, AllocError> {
+    fn answers(heap: Global, cells: u32, writes: &[(u32, usize)]) -> Result<Vec<Outcome>, AllocError> {
         let mut bytes = vec![in heap; 0u8; 512 * (32 + cells as usize)]?;
         let mut work = [0u8; 10240];
-        let mut array = Array::new(Memory::new(bytes.as_mut_slice(), 4, 8, cells), SingleParity);
+        let sizes = Sizes {
+            slots: 4,
+            blocks: 8,
+            cells,
+        };
+        let mut array = Array::new(Memory::new(bytes.as_mut_slice(), sizes), SingleParity);
         let mut all = vec![in heap; told(array.format(&mut work))]?;
         for (number, length) in writes.iter() {
             let block = &[1u8; 512][..*length.min(&512)];
@@ -48,26 +55,26 @@ mod tests {
     #[test]
     fn checks_of_three_bytes(rt: HostRuntime) {
         let mut single = [1, 2, 3, 77];
-        assert!(rt; encode::<SingleParity>(3, &mut single));
+        assert!(rt; encode::<SingleParity>(3, &mut single).is_ok());
         assert_eq!(rt; single, [1, 2, 3, 0]);
         let mut pair = [1, 2, 3, 77, 77];
-        assert!(rt; encode::<DoubleParity>(3, &mut pair));
+        assert!(rt; encode::<DoubleParity>(3, &mut pair).is_ok());
         assert_eq!(rt; pair, [1, 2, 3, 0, 9]);
     }
 
     #[test]
     fn two_lost_bytes(rt: HostRuntime) {
         let mut row = [0, 0, 3, 0, 9];
-        assert!(rt; restore::<DoubleParity>(3, &mut row, &[true, true]));
+        assert!(rt; restore::<DoubleParity>(3, &mut row, &[true, true]).is_ok());
         assert_eq!(rt; row, [1, 2, 3, 0, 9]);
     }
 
     #[test]
     fn rows_that_are_refused(rt: HostRuntime) {
         let mut row = [5, 6, 7, 8];
-        assert!(rt; !SingleParity::solve(3, &mut row, &[true, true]));
-        assert!(rt; !SingleParity::solve(2, &mut row, &[true]));
-        assert!(rt; !SingleParity::solve(3, &mut row, &[false, false, false, false, true]));
+        assert!(rt; SingleParity::solve(3, &mut row, &[true, true]).is_err());
+        assert!(rt; SingleParity::solve(2, &mut row, &[true]).is_err());
+        assert!(rt; SingleParity::solve(3, &mut row, &[false, false, false, false, true]).is_err());
         assert_eq!(rt; row, [5, 6, 7, 8]);
     }
 

@@ -56,7 +56,7 @@ impl<const N: usize> Columns<N> {
         let mut all = true;
         for row in self.rows.iter_mut() {
             lose(&mut row[..], lost);
-            all &= codes::restore::<C>(DATA, &mut row[..], lost);
+            all &= codes::restore::<C>(DATA, &mut row[..], lost).is_ok();
         }
         all
     }

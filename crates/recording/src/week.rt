@@ -5,6 +5,7 @@ use anyhow::anyhow;
 use array::array::Array;
 use backplane::sizes::Sizes;
 use codes::Code;
+use faults::told::Told;
 use fuse::Fuse;
 use memory::Memory;
 use run::call::{Answer, Call, RunFault};
@@ -290,7 +291,7 @@ pub(crate) fn treat_week<C: Code + Drop>(
     } = sizes;
     let places = slots.saturating_mul(blocks).saturating_add(cells) as usize;
     let mut bytes = vec![in heap; 0u8; places.saturating_mul(512)]?;
-    let memory = Memory::new(bytes.as_mut_slice(), slots, blocks, cells);
+    let memory = Memory::new(bytes.as_mut_slice(), sizes);
     let mut layer = Fuse::new(memory);
     let _ = layer.set(stores_before_cut(sizes), TORN);
     let mut array = Array::new(layer, code);

@@ -53,7 +53,7 @@ impl Stripe<'_> {
     }
 
     // The good stripes of a slot, none past the last slot.
-    fn good_stripes(self, slot: u32) -> u32
+    pub fn good_stripes(self, slot: u32) -> u32
         ensures { result ≡ good_of self.entry.header.now slot }
     {
         self.header.good.get(slot as usize).copied().unwrap_or(0)

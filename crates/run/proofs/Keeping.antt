@@ -18,7 +18,7 @@ use Rattle.run.specs.declared.call.Answer.{Answer}
 use Rattle.run.proofs.Sizes.{ends-slots}
 use Rattle.run.proofs.Making.{coding_for}
 
-module _ {B C : Type 0} (plane : PlaneGhosts B) (code : CodeGhosts C) (W : ByteLaws code.number code.rows code.check code.solved)
+module _ {B C : Type 0} (plane : PlaneGhosts B) (code : CodeGhosts C) (W : ByteLaws code.NUMBER code.ROWS code.check code.solved)
     (a b z : Array B C) (n w : ℕ) (long : n ≡ w) (sound : Sound (view_of plane code a))
     (format : Ended plane code (formatting (coding_of plane code a) (view_of plane code a) w) a (answered done) b) where
   abbrev K : Coding (List ℕ)
@@ -27,7 +27,7 @@ module _ {B C : Type 0} (plane : PlaneGhosts B) (code : CodeGhosts C) (W : ByteL
   pub kept-all : (cs : List Call) (xs : List Answer) → MadeAll (coding_of plane code b) n (device_of plane code b) cs xs (device_of plane code z) → RunKept plane code a w cs xs z
   kept-all cs xs made =
       let formatted : Formatted K (device_of plane code b) =
-      format-right code.number code.rows code.check code.solved W ((view_of plane code a).slots - code.rows) w (device_of plane code a) (device_of plane code b) sound format in
+      format-right code.NUMBER code.ROWS code.check code.solved W ((view_of plane code a).slots - code.ROWS) w (device_of plane code a) (device_of plane code b) sound format in
       let same = ends-slots (formatting K (view_of plane code a) w) (view_of plane code a) (view_of plane code b) a.header b.header (answered done) format in
       let all : MadeAll K w (device_of plane code b) cs xs (device_of plane code z) =
       subst (λ (k : ℕ). MadeAll K k (device_of plane code b) cs xs (device_of plane code z)) long
@@ -37,7 +37,7 @@ module _ {B C : Type 0} (plane : PlaneGhosts B) (code : CodeGhosts C) (W : ByteL
         format = format;
         formatted = formatted;
         made = all;
-        kept = promise code.number code.rows code.check code.solved W ((view_of plane code a).slots - code.rows) (device_of plane code b) formatted all.events (device_of plane code z) all.ran;
+        kept = promise code.NUMBER code.ROWS code.check code.solved W ((view_of plane code a).slots - code.ROWS) (device_of plane code b) formatted all.events (device_of plane code z) all.ran;
       }
 
   pub kept-some : (cs : List Call) → MadeSome (coding_of plane code b) n (device_of plane code b) cs (device_of plane code z) → FrontKept plane code a w cs z

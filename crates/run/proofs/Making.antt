@@ -39,7 +39,7 @@ made_more K w u v z cs xs c x m given ends =
 module _ {B C : Type 0} (plane : PlaneGhosts B) (code : CodeGhosts C) where
   -- the code on a backplane with n slots
   abbrev pub coding_for : ℕ → Coding (List ℕ)
-  coding_for n = byte_coding (n - code.rows) code.number code.rows code.check code.solved
+  coding_for n = byte_coding (n - code.ROWS) code.NUMBER code.ROWS code.check code.solved
 
   -- the call in place i, after those before it
   pub further : (first a z : Array B C) (n w : ℕ) (cs : List Call) (i : ℕ) (d : Call) (xs : List Answer) (x : Answer)

@@ -30,7 +30,7 @@ returns-in_err-finish_column g c =
     let k = c.args.started.now.shape.columns in
     let h = c.args.started.now.header in
     let s = c.args.stripe in
-    let m = g.C.Code.rows in
+    let m = g.C.Code.ROWS in
     let row = c.loop-row.row in
     let f : ℕ → List ℕ = λ j. p.cell (c.args.at + (1 + j)) in
     let inv = c.loop-row.invariant in
@@ -50,7 +50,7 @@ loop-row-preserved g c =
     let k = c.args.started.now.shape.columns in
     let h = c.args.started.now.header in
     let s = c.args.stripe in
-    let m = g.C.Code.rows in
+    let m = g.C.Code.ROWS in
     let row = c.loop-row.row in
     let f : ℕ → List ℕ = λ j. p.cell (c.args.at + (1 + j)) in
     let inv = c.loop-row.invariant in
@@ -66,6 +66,6 @@ pub returns : goal.returns
 returns g c =
     let p = g.B.Backplane.view c.args.plane.now in
     let now = g.B.Backplane.view c.loop-row.plane in
-    let e : g.C.Code.rows - c.loop-row.row ≡ 0 = omega arith in
+    let e : g.C.Code.ROWS - c.loop-row.row ≡ 0 = omega arith in
     c.loop-row.invariant.2 now (Ok tt)
     (subst⁻¹ (λ (i : ℕ). Performed (to_good_checks c.args.started.now.shape.slots c.args.started.now.shape.columns p.live c.args.started.now.header c.args.stripe (λ j. p.cell (c.args.at + (1 + j))) i c.loop-row.row) now (Ok tt) now) e refl)

@@ -11,7 +11,7 @@ abbrev pub invariant-loop-row : goal.invariant-loop-row
 invariant-loop-row g l =
     let p = g.B.Backplane.view l.initial.plane in
     let now = g.B.Backplane.view l.plane in
-    let m = g.C.Code.rows in
+    let m = g.C.Code.ROWS in
     let checks = to_good_checks l.started.shape.slots l.started.shape.columns p.live l.started.header l.stripe (λ r. p.cell (l.at + (1 + r))) in
     Kept p now
     × (now.cell ≡ p.cell)

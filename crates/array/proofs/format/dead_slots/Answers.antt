@@ -1,11 +1,26 @@
-use Rattle.std.proofs.Common.{not, arith}
-use Rattle.array.proofs.Dead.{one_more, none-dead, at_most_one}
+use Rattle.std.proofs.Common.{◌≡◌, ℕ, ◌+◌, Bool, true, false, not, refl, ap, ◌∙◌, sym, rules, arith}
+use borrow.Author.Tests.{tests}
+use Rattle.std.specs.List.{range_with_len}
+use Rattle.std.proofs.lemmas.Iterator.{YieldsList-from_range}
+use Rattle.std.proofs.lemmas.Iterator.Consumers.{count_from_yields_List, YieldsList-from_filter}
+use Rattle.std.proofs.lemmas.List.Sums.{length-filter}
+use Rattle.layout.specs.Counts.{count}
+use Rattle.layout.proofs.Counting.{count-range, count_same}
+use Rattle.model.proofs.Counts.{count_none}
 use Rattle.array.proofs.format.dead_slots.Goals as goal
 
-pub loop-d-preserved : goal.loop-d-preserved
-loop-d-preserved g c =
-    let live = (g.B.Backplane.view c.args.backplane.now).live in
-    let d = c.loop-d.d in
-    let n = c.is_dead-dead.ensures in
-    let few = at_most_one (not (live d)) in
-    (omega arith, one_more (λ i. not (live i)) d c.loop-d.dead c.is_dead-dead.result c.loop-d.invariant.1 n, none-dead live d c.loop-d.dead c.is_dead-dead.result n c.loop-d.invariant.2)
+not-dead : (b : Bool) → not b ≡ false → b ≡ true
+not-dead true e = refl
+not-dead false e = cc
+
+pub returns : goal.returns
+returns g c =
+    let p = g.B.Backplane.view c.args.backplane.now in
+    let f : ℕ → Bool = λ d. not (p.live d) in
+    let n = p.slots in
+    let value = count_from_yields_List c.filter.result _ c.count.ensures.ran (YieldsList-from_filter _ f (YieldsList-from_range 0 n n (cc) (omega arith)) c.filter.ensures.closure (λ x b q k. search (rules, tests)))
+    ∙ length-filter f (range_with_len 0 n) ∙ count-range n 0 f ∙ count_same n (λ k. f (0 + k)) f (λ t h. ap f (omega arith)) in
+    record {
+      value = value;
+      live = λ none d l. not-dead (p.live d) (count_none n f (sym value ∙ none) d l);
+    }

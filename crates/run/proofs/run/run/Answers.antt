@@ -7,7 +7,7 @@ use Rattle.run.proofs.run.run.Given as given
 use Rattle.run.proofs.run.run.Goals as goal
 
 -- what the code keeps
-laws : (g : given.Over) → ByteLaws g.C.Code.number g.C.Code.rows g.C.Code.check g.C.Code.solved
+laws : (g : given.Over) → ByteLaws g.C.Code.NUMBER g.C.Code.ROWS g.C.Code.check g.C.Code.solved
 laws g =
     let met = g.met.C.Code in
     record { named = met.named; few = met.few; low = met.low; zero = met.zero; additive = met.additive; apart = met.apart; solves = met.solves }

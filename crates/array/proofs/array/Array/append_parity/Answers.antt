@@ -16,9 +16,9 @@ returns g c =
     let k = c.args.started.now.shape.columns in
     let w : n ≡ width K = started.width in
     let columns : k ≡ K.k = started.columns in
-    let m : n - k ≡ g.C.Code.rows = omega arith in
+    let m : n - k ≡ g.C.Code.ROWS = omega arith in
     let then = c.with_used-counted.result in
     let z = c.store_folded.new.self in
-    parity-phases K p c.args.started.now.header c.args.stripe c.args.row.now c.requires.holds (λ x. refl) n k w columns m c.head_cell-head.result c.header_cell-cell.result then
-    c.args.records c.store_folded.result (view_of g.B.Backplane g.C.Code z) z.header c.head_cell-head.ensures c.with_used-counted.ensures
-    (c.header_cell-cell.ensures ∙ ap (λ (sh : Shape). header_bytes sh then) started.shape) c.store_folded.ensures
+    parity-phases K p c.args.started.now.header c.args.stripe c.args.row.now c.requires.holds (λ x. refl) n k w columns m c.cell-head.result c.cell-cell.result then
+    c.args.records c.store_folded.result (view_of g.B.Backplane g.C.Code z) z.header c.cell-head.ensures.bytes c.with_used-counted.ensures
+    (c.cell-cell.ensures.bytes ∙ ap (λ (sh : Shape). header_bytes sh then) started.shape) c.store_folded.ensures

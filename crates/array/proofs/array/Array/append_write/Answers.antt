@@ -13,6 +13,6 @@ returns g c =
     let started = c.requires.started in
     let then = c.with_used-counted.result in
     let z = c.store_counted.new.self in
-    write-phases K p c.args.started.now.header c.args.stripe c.args.column (λ x. refl) c.args.started.now.shape.slots c.head_cell-head.result c.args.delta.now c.args.bytes.now
-    c.header_cell-cell.result then c.store_counted.result (view_of g.B.Backplane g.C.Code z) z.header started.width c.head_cell-head.ensures c.with_used-counted.ensures
-    (c.header_cell-cell.ensures ∙ ap (λ (sh : Shape). header_bytes sh then) started.shape) c.store_counted.ensures
+    write-phases K p c.args.started.now.header c.args.stripe c.args.column (λ x. refl) c.args.started.now.shape.slots c.cell-head.result c.args.delta.now c.args.bytes.now
+    c.cell-cell.result then c.store_counted.result (view_of g.B.Backplane g.C.Code z) z.header started.width c.cell-head.ensures.bytes c.with_used-counted.ensures
+    (c.cell-cell.ensures.bytes ∙ ap (λ (sh : Shape). header_bytes sh then) started.shape) c.store_counted.ensures

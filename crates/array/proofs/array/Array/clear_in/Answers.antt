@@ -5,7 +5,8 @@ use Rattle.layout.specs.Counts.{lowest}
 use Rattle.layout.specs.Header.{with_used}
 use Rattle.model.specs.Log.{owing, owed}
 use Rattle.model.specs.Rules.{to_header, log_of, clear_open}
-use Rattle.array.specs.Calls.{view_of, coding_on, coding_of, opened_of, acked, reply_of, Made, Same}
+use Rattle.parity_log.specs.Codes.{coding_on}
+use Rattle.array.specs.Calls.{view_of, coding_of, opened_of, acked, reply_of, Made, Same}
 use Rattle.array.proofs.Endings.{long-enough, none_found, made-header, same_ends, open-ends}
 use Rattle.array.proofs.array.Array.clear_in.Goals as goal
 
@@ -22,8 +23,8 @@ returns g c =
     let u = c.store_header.new.self.header in
     let r = c.store_header.result in
     let log = log_of K p h in
-    let first = made-header (to_header (coding_on g.B.Backplane g.C.Code m) m n) n m q r u c.store_header.ensures.stores c.store_header.ensures.held in
-    let kept = subst (λ (x : Bytes). Made ((to_header (coding_on g.B.Backplane g.C.Code x) x n ∷ []) ∷ []) Same (tt {0}) (Some n) x r q u) c.lowest_pending.ensures.kept first in
+    let first = made-header (to_header (coding_on g.C.Code m) m n) n m q r u c.store_header.ensures.stores c.store_header.ensures.held in
+    let kept = subst (λ (x : Bytes). Made ((to_header (coding_on g.C.Code x) x n ∷ []) ∷ []) Same (tt {0}) (Some n) x r q u) c.lowest_pending.ensures.kept first in
     let made = subst (λ (x : Header). Made ((to_header K p x ∷ []) ∷ []) Same (tt {0}) (Some x) p r q u) c.emptied.ensures kept in
     inr (
       long-enough _ c.requires,

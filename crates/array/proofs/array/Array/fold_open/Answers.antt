@@ -1,7 +1,8 @@
 use Rattle.std.proofs.Common.{Some, ◌∙◌, subst, arith}
 use Rattle.backplane.specs.Meaning.{Bytes}
 use Rattle.model.specs.Rules.{folded, grown}
-use Rattle.array.specs.Calls.{view_of, coding_on, Made, Same}
+use Rattle.parity_log.specs.Codes.{coding_on}
+use Rattle.array.specs.Calls.{view_of, Made, Same}
 use Rattle.array.specs.Records.{appending}
 use Rattle.array.proofs.Folded.{fold-ends}
 use Rattle.array.proofs.array.Array.fold_open.Goals as goal
@@ -12,7 +13,7 @@ returns g c =
     let h = c.args.started.now.header in
     let s = c.args.stripe in
     let p = view_of g.B.Backplane g.C.Code a in
-    let on = coding_on g.B.Backplane g.C.Code in
+    let on = coding_on g.C.Code in
     let q = view_of g.B.Backplane g.C.Code c.append_parity.new.self in
     let u = c.append_parity.new.self.header in
     let r = c.append_parity.result in

@@ -1,5 +1,4 @@
-use Rattle.std.proofs.Common.{◌≡◌, ℕ, eqb, List, length, replicate, Some, ap, ◌∙◌, subst}
-use Rattle.std.proofs.lemmas.Bool.{cond-true, eq-eqb}
+use Rattle.std.proofs.Common.{◌≡◌, ℕ, List, length, replicate, Some, ap, ◌∙◌, subst, rules}
 use Rattle.layout.specs.declared.header.Header.{Header}
 use Rattle.layout.specs.Header.{header_bytes}
 use Rattle.model.specs.Coding.{zeros}
@@ -15,10 +14,9 @@ returns g c =
     let q = view_of g.B.Backplane g.C.Code c.format_by.new.self in
     let u = c.format_by.new.self.header in
     let r = c.format_by.result in
-    let z = c.wipe.new.bytes in
-    let h = c.first_header-header.result in
-    let blank : c.wipe.new.bytes ≡ zeros = c.wipe.ensures ∙ ap (λ (n : ℕ). replicate n 0) c.requires.zero_len in
-    let encoded : c.encode.new.into ≡ header_bytes sh h = c.encode.ensures.bytes ∙ cond-true (eqb (length c.args.cell.now) 512) _ _ (eq-eqb _ 512 c.requires.cell_len) in
-    subst (λ (x : Header). Made (formatted_by sh zeros (header_bytes sh x)) Same (tt {0}) (Some x) p r q u) c.first_header-header.ensures
+    let h = c.first-header.result in
+    let long : length c.args.zero.now ≡ 512 = search rules in
+    let blank : c.wipe.new.bytes ≡ zeros = c.wipe.ensures ∙ ap (λ (n : ℕ). replicate n 0) long in
+    subst (λ (x : Header). Made (formatted_by sh zeros (header_bytes sh x)) Same (tt {0}) (Some x) p r q u) c.first-header.ensures
     (subst (λ (x : List ℕ). Made (formatted_by sh x (header_bytes sh h)) Same (tt {0}) (Some h) p r q u) blank
-    (subst (λ (x : List ℕ). Made (formatted_by sh z x) Same (tt {0}) (Some h) p r q u) encoded c.format_by.ensures))
+    (subst (λ (x : List ℕ). Made (formatted_by sh c.wipe.new.bytes x) Same (tt {0}) (Some h) p r q u) c.cell.ensures.bytes c.format_by.ensures))

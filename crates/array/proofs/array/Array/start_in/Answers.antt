@@ -3,7 +3,8 @@ use Rattle.backplane.specs.Plane.{Sector, switched}
 use Rattle.backplane.specs.Meaning.{Bytes}
 use Rattle.layout.specs.declared.header.Header.{Header}
 use Rattle.model.specs.Verdict.{Verdict, Ends}
-use Rattle.array.specs.Calls.{view_of, coding_on, acked, reply_of}
+use Rattle.parity_log.specs.Codes.{coding_on}
+use Rattle.array.specs.Calls.{view_of, acked, reply_of}
 use Rattle.array.proofs.Endings.{long-enough}
 use Rattle.array.specs.Starts.{start_on}
 use Rattle.array.proofs.Switching.{start-same}
@@ -11,7 +12,7 @@ use Rattle.array.proofs.array.Array.start_in.Goals as goal
 
 pub returns : goal.returns
 returns g c =
-    let on = coding_on g.B.Backplane g.C.Code in
+    let on = coding_on g.C.Code in
     let p = view_of g.B.Backplane g.C.Code c.args.self.now in
     let q = view_of g.B.Backplane g.C.Code c.start_on.new.self in
     let u = c.start_on.new.self.header in

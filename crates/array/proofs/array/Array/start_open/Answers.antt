@@ -1,7 +1,8 @@
 use Rattle.std.proofs.Common.{◌≡◌, false, sym, ap, ◌∙◌, subst, inr}
 use Rattle.backplane.specs.Meaning.{Bytes}
 use Rattle.model.specs.Rules.{is_there, is_good, log_of, too_full, finish_last}
-use Rattle.array.specs.Calls.{view_of, coding_on, Performed}
+use Rattle.parity_log.specs.Codes.{coding_on}
+use Rattle.array.specs.Calls.{view_of, Performed}
 use Rattle.array.proofs.Endings.{performed-ends}
 use Rattle.array.proofs.array.Array.start_open.Goals as goal
 
@@ -9,7 +10,7 @@ pub returns : goal.returns
 returns g c =
     let a = c.args.self.now in
     let h = c.args.started.now.header in
-    let on = coding_on g.B.Backplane g.C.Code in
+    let on = coding_on g.C.Code in
     let p = view_of g.B.Backplane g.C.Code a in
     let q = view_of g.B.Backplane g.C.Code c.finish_start.new.self in
     let u = c.finish_start.new.self.header in

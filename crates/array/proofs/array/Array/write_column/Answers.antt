@@ -3,7 +3,8 @@ use Rattle.backplane.specs.Meaning.{Bytes}
 use Rattle.layout.specs.Bytes.{sum_of}
 use Rattle.model.specs.Log.{write}
 use Rattle.model.specs.Rules.{grown, row_of}
-use Rattle.array.specs.Calls.{view_of, coding_on, Made, Same}
+use Rattle.parity_log.specs.Codes.{coding_on}
+use Rattle.array.specs.Calls.{view_of, Made, Same}
 use Rattle.array.specs.Records.{appending}
 use Rattle.array.proofs.Written.{write-ends}
 use Rattle.array.proofs.array.Array.write_column.Goals as goal
@@ -16,7 +17,7 @@ returns g c =
     let j = c.args.column in
     let x = c.args.bytes.now in
     let p = view_of g.B.Backplane g.C.Code a in
-    let on = coding_on g.B.Backplane g.C.Code in
+    let on = coding_on g.C.Code in
     let m = g.B.Backplane.view c.judge_write.new.plane in
     let q = view_of g.B.Backplane g.C.Code c.append_write.new.self in
     let u = c.append_write.new.self.header in
