@@ -1,20 +1,29 @@
 // A recording spread over columns, block by block, with check columns behind them.
-use crate::{DATA, STRIPE};
-use codes::Code;
+use crate::{DATA, STRIPE, width};
+use codes::{Code, RowFault};
 use std::alloc::{AllocError, Global};
 
-// N columns, those of data first.
-#[derive(Clone, Drop)]
-pub struct Columns<const N: usize> {
-    // the bytes at each place of the columns
-    rows: Vec<[u8; N]>,
+// The bytes at one place of all columns, those of data first; zeros behind the last.
+type Row = [u8; 16];
+
+#[derive(Drop)]
+pub struct Columns {
+    rows: Vec<Row>,
 }
 
 // What stands in a lost column until it is restored.
 const GONE: u8 = 0xE5;
 
+// The bytes at place `i` of the blocks of a stripe, zeros past its end.
+fn row_at(stripe: &[u8], i: usize) -> Row {
+    std::array::from_fn(|c| {
+        let at = c.saturating_mul(512).saturating_add(i);
+        stripe.get(at).copied().unwrap_or(0)
+    })
+}
+
 // Overwrites the bytes that are lost.
-fn lose(row: &mut [u8], lost: &[bool]) {
+fn lose(row: &mut Row, lost: &[bool; 16]) {
     for (b, gone) in row.iter_mut().zip(lost.iter()) {
         if *gone {
             *b = GONE;
@@ -22,7 +31,21 @@ fn lose(row: &mut [u8], lost: &[bool]) {
     }
 }
 
-impl<const N: usize> Columns<N> {
+// The part of a row that a code has columns for.
+fn part<C: Code>(row: &mut Row) -> &mut [u8] {
+    let n = width::<C>().min(16);
+    &mut row[..n]
+}
+
+// The row with its lost bytes overwritten and restored, unless that is refused.
+fn restored_row<C: Code>(kept: &Row, lost: &[bool; 16]) -> Result<Row, RowFault> {
+    let mut row = *kept;
+    lose(&mut row, lost);
+    codes::restore::<C>(DATA, part::<C>(&mut row), lost)?;
+    Ok(row)
+}
+
+impl Columns {
     // Block b of the recording goes to column b mod DATA; the last stripe is filled up with zeros. The code's checks stand behind.
     pub(crate) fn spread<C: Code>(heap: Global, recording: &[u8]) -> Result<Self, AllocError> {
         let mut columns = Columns {
@@ -36,11 +59,8 @@ impl<const N: usize> Columns<N> {
 
     fn push_stripe<C: Code>(&mut self, stripe: &[u8]) -> Result<(), AllocError> {
         for i in 0..512usize {
-            let mut row = [0u8; N];
-            for (b, block) in row.iter_mut().zip(stripe.chunks(512)) {
-                *b = block.get(i).copied().unwrap_or(0);
-            }
-            let _ = codes::encode::<C>(DATA, &mut row);
+            let mut row = row_at(stripe, i);
+            let _ = codes::encode::<C>(DATA, part::<C>(&mut row));
             self.rows.push(row)?;
         }
         Ok(())
@@ -51,14 +71,20 @@ impl<const N: usize> Columns<N> {
         self.rows.len()
     }
 
-    // Overwrites the lost columns and restores them, row by row; false if a row was refused.
-    pub(crate) fn restore<C: Code>(&mut self, lost: &[bool; N]) -> bool {
-        let mut all = true;
-        for row in self.rows.iter_mut() {
-            lose(&mut row[..], lost);
-            all &= codes::restore::<C>(DATA, &mut row[..], lost).is_ok();
+    // The columns with the lost ones overwritten and restored, row by row; none if a row was refused.
+    pub(crate) fn restored<C: Code>(
+        &self,
+        heap: Global,
+        lost: &[bool; 16],
+    ) -> Result<Option<Self>, AllocError> {
+        let mut rows = Vec::new(heap);
+        for kept in self.rows.iter() {
+            let Ok(row) = restored_row::<C>(kept, lost) else {
+                return Ok(None);
+            };
+            rows.push(row)?;
         }
-        all
+        Ok(Some(Columns { rows }))
     }
 
     // The first `length` bytes of the recording, from its data columns.
@@ -73,8 +99,8 @@ impl<const N: usize> Columns<N> {
 }
 
 // Appends the data blocks of a stripe, one after the other.
-fn push_data<const N: usize>(out: &mut Vec<u8>, stripe: &[[u8; N]]) -> Result<(), AllocError> {
-    for c in 0..DATA.min(N) {
+fn push_data(out: &mut Vec<u8>, stripe: &[Row]) -> Result<(), AllocError> {
+    for c in 0..DATA {
         for row in stripe.iter() {
             out.push(row[c])?;
         }

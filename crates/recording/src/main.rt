@@ -17,9 +17,9 @@ const DATA: usize = 5;
 const STRIPE: usize = 512 * DATA;
 
 // All columns, with those of checks.
-const SINGLE: usize = DATA + 1;
-
-const DOUBLE: usize = DATA + 2;
+fn width<C: Code>() -> usize {
+    C::check_rows().saturating_add(DATA)
+}
 
 // What became of one recording under one code.
 #[derive(Clone, Copy, Default)]
@@ -29,33 +29,30 @@ struct Outcome {
 }
 
 // The flags of the lost columns: those whose bit is set.
-fn flags<const N: usize>(bits: u32) -> [bool; N] {
-    std::array::from_fn(|c| c < 32 && (bits >> (c as u32)) & 1 == 1)
+fn flags(bits: u32) -> [bool; 16] {
+    std::array::from_fn(|c| c < 16 && (bits >> (c as u32)) & 1 == 1)
 }
 
 // Loses columns, restores them, and says whether the recording came back as it was.
-fn survives<C: Code, const N: usize>(
+fn survives<C: Code>(
     heap: Global,
-    spread: &Columns<N>,
-    lost: &[bool; N],
+    spread: &Columns,
+    lost: &[bool; 16],
     recording: &[u8],
 ) -> anyhow::Result<bool> {
-    let mut columns = spread.clone()?;
-    let restored = columns.restore::<C>(lost);
+    let Some(columns) = spread.restored::<C>(heap, lost)? else {
+        return Ok(false);
+    };
     let back = columns.joined(heap, recording.len())?;
-    Ok(restored && back.as_slice() == recording)
+    Ok(back.as_slice() == recording)
 }
 
-fn lose_all<C: Code, const N: usize>(
-    heap: Global,
-    spread: &Columns<N>,
-    recording: &[u8],
-) -> anyhow::Result<Outcome> {
+fn lose_all<C: Code>(heap: Global, spread: &Columns, recording: &[u8]) -> anyhow::Result<Outcome> {
     let mut outcome = Outcome::default();
-    for bits in 0..1u32 << N.min(16) {
+    for bits in 0..1u32 << width::<C>().min(16) {
         if bits.count_ones() as usize == C::check_rows() {
             outcome.combinations = outcome.combinations.saturating_add(1);
-            if survives::<C, N>(heap, spread, &flags::<N>(bits), recording)? {
+            if survives::<C>(heap, spread, &flags(bits), recording)? {
                 outcome.whole = outcome.whole.saturating_add(1);
             }
         }
@@ -63,8 +60,8 @@ fn lose_all<C: Code, const N: usize>(
     Ok(outcome)
 }
 
-// A recording under a code with N columns in all.
-fn treat<C: Code + Drop, const N: usize>(
+// A recording under a code, and through a week on an array with it.
+fn treat<C: Code + Drop>(
     rt: &HostRuntime,
     name: &str,
     code: C,
@@ -72,13 +69,13 @@ fn treat<C: Code + Drop, const N: usize>(
 ) -> anyhow::Result<()> {
     let heap = rt.alloc();
     let checks = C::check_rows();
-    let spread: Columns<N> = Columns::spread::<C>(heap, recording)?;
+    let spread = Columns::spread::<C>(heap, recording)?;
     let length = spread.length();
     println!(rt; "{name}: {DATA} columns of data, {checks} of checks, {length} bytes each")?;
     let Outcome {
         combinations,
         whole,
-    } = lose_all::<C, N>(heap, &spread, recording)?;
+    } = lose_all::<C>(heap, &spread, recording)?;
     println!(rt; "  ways to lose as many columns as there are checks: {combinations}")?;
     println!(rt; "  times the recording came back as it was, byte by byte: {whole}")?;
     week::treat_week(rt, code, recording)
@@ -96,8 +93,8 @@ fn run(rt: &HostRuntime) -> anyhow::Result<()> {
     let bytes = recording.len();
     let blocks = bytes.div_ceil(512);
     println!(rt; "{name}: {bytes} bytes, {blocks} blocks of 512 bytes")?;
-    treat::<SingleParity, SINGLE>(rt, "Code 1, single parity", SingleParity, recording)?;
-    treat::<DoubleParity, DOUBLE>(rt, "Code 2, double parity", DoubleParity, recording)
+    treat(rt, "Code 1, single parity", SingleParity, recording)?;
+    treat(rt, "Code 2, double parity", DoubleParity, recording)
 }
 
 fn main(rt: HostRuntime) -> anyhow::Result<()> {

@@ -1,6 +1,6 @@
 // One recording through a week on an array: written, folded and cleared, two blocks replaced with the power cut inside a block store, a disk
 // pulled, a new one rebuilt, and the recording compared with what it should be, byte by byte.
-use crate::{DATA, STRIPE, checks};
+use crate::{DATA, STRIPE, checks, width};
 use anyhow::anyhow;
 use array::array::Array;
 use backplane::sizes::Sizes;
@@ -254,7 +254,7 @@ fn treat_tape<C: Code>(
     match run(heap, array, calls.as_slice(), work.as_mut_slice()) {
         Ok(answers) => {
             let mut week = told(calls.as_slice(), answers.as_slice(), tape.edited);
-            let slots = C::check_rows().saturating_add(DATA);
+            let slots = width::<C>();
             week.stripes = tape.stripes;
             week.wrong = tape.wrong_checks(array.backplane.below().bytes(), slots);
             println!(rt; "{week}")?;
@@ -280,7 +280,7 @@ pub(crate) fn treat_week<C: Code + Drop>(
     let mut edited = padded.clone()?;
     replace(edited.as_mut_slice());
     let sizes = Sizes {
-        slots: u32::try_from(C::check_rows().saturating_add(DATA))?,
+        slots: u32::try_from(width::<C>())?,
         blocks: u32::try_from(padded.len() / STRIPE)?,
         cells: CELLS,
     };
