@@ -3,6 +3,8 @@ ghost use Rattle.std.specs.Prelude.{◌≡◌};
 ghost use Rattle.rows.specs.declared.fault.RowError.TheVariants.{AtPlace};
 
 use backplane::fault::BackplaneFault;
+use std::error::Error;
+use std::fmt;
 
 #[derive(Clone, Copy, Debug, PartialEq, Eq)]
 pub enum RowError {
@@ -18,3 +20,14 @@ impl From<BackplaneFault> for RowError {
         RowError::AtPlace(f)
     }
 }
+
+impl fmt::Display for RowError {
+    fn fmt<W: fmt::Write>(&self, f: &mut fmt::Formatter<W>) -> fmt::Result {
+        match *self {
+            RowError::NoRow => write!(f, "row: there is none"),
+            RowError::AtPlace(fault) => write!(f, "row: {fault}"),
+        }
+    }
+}
+
+impl Error for RowError {}

@@ -12,6 +12,7 @@ pub fn add_share<C: Code>(r: usize, column: usize, block: &[u8], target: &mut [u
     ensures after { target.new ≡ summed_to target.old (map (share_of C.Code.check C.Code.ROWS r column) block.now) (min (length target.old) (length block.now)) target.old }
     ensures whole { (k : ℕ) → column < k → k ≤ 12 → r < C.Code.ROWS → length block.now ≡ 512 → length target.old ≡ 512 → target.new ≡ sum_of target.old (share (coding C.Code k) r column block.now) }
 {
+    // by index: tried as a zip over iter_mut, and the proof of what it writes did not close
     let n = target.len().min(block.len());
     for i in 0..n {
         target[i] = with_share::<C>(r, column, block[i], target[i]);

@@ -1,8 +1,7 @@
-use Rattle.std.proofs.Common.{◌≡◌, ℕ, List, Ok, Some, None, Option, Result, ap, ◌∙◌, arith}
+use Rattle.std.proofs.Common.{◌≡◌, ℕ, List, Ok, Option, Result, ap, ◌∙◌}
 use Rattle.backplane.specs.Meaning.{Bytes}
 use Rattle.backplane.specs.declared.fault.BackplaneFault.{BackplaneFault}
 use Rattle.parity_log.specs.Codes.{coding}
-use Rattle.parity_log.specs.Faults.{unless_fault}
 use Rattle.parity_log.specs.Walks.{last_parity, resume_at, rest}
 use Rattle.parity_log.proofs.Walking.{readable}
 use Rattle.rows.specs.Columns.{column_in, flagged}
