@@ -1,5 +1,5 @@
 -- What a call of the array answers and leaves, by the rules.
-use Rattle.std.specs.Prelude.{◌≡◌, ℕ, ◌-◌, Bool, cond, ◌⊎◌, List, [], ◌∷◌, map, length, replicate, Some, None, Ok, Err, Option, Result}
+use Rattle.std.specs.Prelude.{◌≡◌, ℕ, Bool, cond, ◌⊎◌, List, [], ◌∷◌, map, length, replicate, Some, None, Ok, Err, Option, Result}
 use Rattle.std.specs.List.{range_with_len, flat_map}
 use Rattle.backplane.specs.Plane.{Sector, Store, to_block}
 use Rattle.backplane.specs.Meaning.{Bytes}

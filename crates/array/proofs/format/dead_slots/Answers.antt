@@ -4,7 +4,6 @@ use Rattle.std.specs.List.{range_with_len}
 use Rattle.std.proofs.lemmas.Iterator.{YieldsList-from_range}
 use Rattle.std.proofs.lemmas.Iterator.Consumers.{count_from_yields_List, YieldsList-from_filter}
 use Rattle.std.proofs.lemmas.List.Sums.{length-filter}
-use Rattle.layout.specs.Counts.{count}
 use Rattle.layout.proofs.Counting.{count-range, count_same}
 use Rattle.model.proofs.Counts.{count_none}
 use Rattle.array.proofs.format.dead_slots.Goals as goal

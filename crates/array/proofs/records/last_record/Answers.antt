@@ -1,4 +1,4 @@
-use Rattle.std.proofs.Common.{◌≡◌, ℕ, List, Some, ap, ◌∙◌, rules, arith}
+use Rattle.std.proofs.Common.{◌≡◌, ℕ, List, Some, ap, ◌∙◌, rules}
 use Rattle.backplane.specs.Meaning.{Bytes}
 use Rattle.layout.specs.Head.{head_in}
 use Rattle.parity_log.specs.Codes.{coding_on}
