@@ -1,5 +1,5 @@
 -- What an exercise of a backplane counts, and what it leaves as it was.
-use Rattle.std.specs.Prelude.{◌≡◌, ℕ, ◌+◌, ◌<◌, Ok, Err, Result}
+use Rattle.std.specs.Prelude.{◌≡◌, ℕ, ◌+◌, Ok, Err, Result}
 use Rattle.backplane.specs.declared.fault.BackplaneFault.{BackplaneFault}
 use Rattle.backplane.specs.declared.fault.BackplaneFault.TheVariants.{Off, NoPlace, Dead, Live, Cut}
 use Rattle.backplane.specs.Meaning.{Bytes}
@@ -21,6 +21,6 @@ noted (Err (Cut _)) t = record { done = t.done; off = t.off; no_place = t.no_pla
 abbrev pub SameSizes : Bytes → Bytes → Type 0
 SameSizes p q = (q.slots ≡ p.slots) × (q.blocks ≡ p.blocks) × (q.cells ≡ p.cells)
 
--- so many operations more were tried, and the sizes stayed. A count has an end, past which nothing is said of it
+-- so many operations more were tried, and the sizes stayed
 abbrev pub Tried : ℕ → Tally → Tally → Bytes → Bytes → Type 0
-Tried n t u p q = (total t + n < 4294967296 → total u ≡ total t + n) × SameSizes p q
+Tried n t u p q = (total u ≡ total t + n) × SameSizes p q

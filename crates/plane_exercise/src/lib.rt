@@ -27,7 +27,7 @@ impl Tally {
         Tally::default()
     }
 
-    // A count that is full stays.
+    // A count that is full stays. Each arm adds by itself: one counter chosen by `&mut` was tried, and its proof did not close.
     fn note(&mut self, answer: &Result<(), BackplaneFault>)
         ensures { total self.old < 4294967295 → self.new ≡ noted answer.now self.old }
     {
@@ -132,7 +132,8 @@ fn pulled(slots: u32) -> [Step; 7] {
 }
 
 fn try_all<B: Backplane>(plane: &mut B, steps: &[Step], tally: &mut Tally)
-    ensures { Tried (length steps.now) tally.old tally.new (B.Backplane.view plane.old) (B.Backplane.view plane.new) }
+    ensures tried { total tally.old + length steps.now < 4294967296 → Tried (length steps.now) tally.old tally.new (B.Backplane.view plane.old) (B.Backplane.view plane.new) }
+    ensures sizes { SameSizes (B.Backplane.view plane.old) (B.Backplane.view plane.new) }
 {
     for step in steps {
         let answer = step.try_on(plane);
@@ -141,7 +142,8 @@ fn try_all<B: Backplane>(plane: &mut B, steps: &[Step], tally: &mut Tally)
 }
 
 fn round<B: Backplane>(plane: &mut B, tally: &mut Tally)
-    ensures { Tried 29 tally.old tally.new (B.Backplane.view plane.old) (B.Backplane.view plane.new) }
+    ensures tried { total tally.old + 29 < 4294967296 → Tried 29 tally.old tally.new (B.Backplane.view plane.old) (B.Backplane.view plane.new) }
+    ensures sizes { SameSizes (B.Backplane.view plane.old) (B.Backplane.view plane.new) }
 {
     let sizes = plane.sizes();
     try_all(plane, &edges(sizes), tally);
