@@ -98,8 +98,9 @@ fn add_shares<C: Code>(k: u8, column: u8, delta: &[u8], leave: &[bool; 16], row:
     requires room { 512 * (k + C.Code.ROWS) ≤ length row.old }
     ensures { (c : ℕ) → c < k + C.Code.ROWS → column_in row.new c ≡ shared_to (coding C.Code k) (flagged leave.now) column delta.now c (column_in row.old c) }
 {
-    for r in 0..C::ROWS {
-        if !leave[k as usize + r] {
+    let of_checks = &leave[k as usize..k as usize + C::ROWS];
+    for (r, is_left) in of_checks.iter().enumerate() {
+        if !*is_left {
             add_to_column::<C>(k, r, column, delta, row);
         }
     }

@@ -179,21 +179,21 @@ fn read_columns<B: Backplane>(
     ensures each { (c : ℕ) → c < n → column_in row.new c ≡ (if flagged lost.now c then zeros else (B.Backplane.view plane.old).block (slot_of n stripe c) stripe) }
     ensures kept { B.Backplane.view plane.new ≡ B.Backplane.view plane.old }
 {
-    for c in 0..n {
-        if lost[c as usize] {
+    for (c, is_lost) in lost[..n as usize].iter().enumerate() {
+        if *is_lost {
             wipe_column(c, row);
         } else {
-            read_column(plane, n, stripe, c, row)?;
+            read_column(plane, n, stripe, c as u8, row)?;
         }
     }
     Ok(())
 }
 
-fn wipe_column(column: u8, row: &mut [u8])
+fn wipe_column(column: usize, row: &mut [u8])
     requires { 512 * column + 512 ≤ length row.old }
     ensures { ColumnPut column zeros row.old row.new }
 {
-    let at = 512 * column as usize;
+    let at = 512 * column;
     wipe(&mut row[at..at + 512]);
 }
 
