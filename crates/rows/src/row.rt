@@ -50,6 +50,9 @@ pub fn row_of_stripe<B: Backplane, C: Code>(
         columns: shape.slots,
         number: stripe,
     };
+    let Ok(cell) = <&mut [u8; CELL]>::try_from(cell) else {
+        return Err(RowError::NoRow);
+    };
     fill_row::<B, C>(plane, shape, stripe, row, cell)?;
     Ok(())
 }
@@ -72,9 +75,12 @@ pub fn add_pending_to_column<B: Backplane, C: Code>(
     let Some(shape) = open_shape::<B, C>(plane, header) else {
         return Err(RowError::NoRow);
     };
-    if !has_room(row.len(), cell.len()) {
+    if row.len() < ROW {
         return Err(RowError::NoRow);
     }
+    let Ok(cell) = <&mut [u8; CELL]>::try_from(cell) else {
+        return Err(RowError::NoRow);
+    };
     add_pending_only::<B, C>(plane, shape, header, stripe, column, row, cell)?;
     Ok(())
 }
@@ -138,14 +144,13 @@ fn fill_row<B: Backplane, C: Code>(
     shape: Shape,
     stripe: Stripe,
     row: &mut [u8],
-    cell: &mut [u8],
+    cell: &mut [u8; 512],
 ) -> Result<(), BackplaneFault>
     requires fits { OpenFits C.Code.ROWS (B.Backplane.view plane.old) stripe.header.now shape }
     requires columns { stripe.columns ≡ shape.slots }
     requires stripe { stripe.number < (B.Backplane.view plane.old).blocks }
     requires repairable { missing shape.slots (B.Backplane.view plane.old).live (good_of stripe.header.now) stripe.number ≤ C.Code.ROWS }
     requires room { 8192 ≤ length row.old }
-    requires size { length cell.old ≡ 512 }
     ensures done { result ≡ Ok tt }
     ensures row { HoldsRow (coding C.Code shape.columns) (B.Backplane.view plane.old) stripe.entry.header.now stripe.entry.number row.new }
     ensures kept { B.Backplane.view plane.new ≡ B.Backplane.view plane.old }
@@ -229,11 +234,10 @@ fn add_pending_only<B: Backplane, C: Code>(
     stripe: u32,
     column: u8,
     row: &mut [u8],
-    cell: &mut [u8],
+    cell: &mut [u8; 512],
 ) -> Result<(), BackplaneFault>
     requires fits { OpenFits C.Code.ROWS (B.Backplane.view plane.old) header.now shape }
     requires room { 8192 ≤ length row.old }
-    requires size { length cell.old ≡ 512 }
     ensures done { result ≡ Ok tt }
     ensures each { Settled (coding C.Code shape.columns) (B.Backplane.view plane.old) header.now stripe column row.old row.new }
     ensures kept { B.Backplane.view plane.new ≡ B.Backplane.view plane.old }
