@@ -139,6 +139,7 @@ fn is_repairable<B: Backplane, C: Code>(plane: &B, stripe: Stripe) -> bool
 }
 
 // Reads the columns of a stripe that is not past repair, adds the pending shares, and solves the lost columns.
+// The row is a slice: tried as 8,192 bytes by type, and the proof of the answers over the lent chunk did not close.
 fn fill_row<B: Backplane, C: Code>(
     plane: &mut B,
     shape: Shape,

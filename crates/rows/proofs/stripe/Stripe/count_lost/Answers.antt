@@ -1,4 +1,4 @@
-use Rattle.std.proofs.Common.{◌≡◌, ℕ, ◌+◌, ◌<◌, ◌&&◌, Bool, ap, ◌∙◌, ltb, rules, arith}
+use Rattle.std.proofs.Common.{◌+◌, ◌&&◌, Bool, ap, ◌∙◌, rules, arith}
 use borrow.Author.Tests.{tests}
 use Rattle.std.specs.List.{range_with_len}
 use Rattle.std.proofs.lemmas.Iterator.{YieldsList-from_range}
