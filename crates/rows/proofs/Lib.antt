@@ -1,4 +1,5 @@
 pub mod Blocks
+pub mod Filling
 pub mod Sharing
 pub mod Placed
 pub mod Grown

@@ -24,11 +24,10 @@ pub(crate) fn add_pending<B: Backplane, C: Code>(
     stripe: u32,
     leave: &[bool; 16],
     row: &mut [u8],
-    cell: &mut [u8],
+    cell: &mut [u8; 512],
 ) -> Result<(), BackplaneFault>
     requires fits { LogFits (B.Backplane.view plane.old) log }
     requires room { 512 * (log.columns + C.Code.ROWS) ≤ length row.old }
-    requires size { length cell.old ≡ 512 }
     ensures done { result ≡ Ok tt }
     ensures each { (c : ℕ) → c < log.columns + C.Code.ROWS → column_in row.new c ≡ (if flagged leave.now c then column_in row.old c else settled_with (coding C.Code log.columns) (walk (coding C.Code log.columns) (B.Backplane.view plane.old) log.used).log stripe c (column_in row.old c)) }
     ensures kept { B.Backplane.view plane.new ≡ B.Backplane.view plane.old }
@@ -45,11 +44,10 @@ fn add_after<B: Backplane, C: Code>(
     last: Option<u32>,
     leave: &[bool; 16],
     row: &mut [u8],
-    cell: &mut [u8],
+    cell: &mut [u8; 512],
 ) -> Result<(), BackplaneFault>
     requires fits { LogFits (B.Backplane.view plane.old) log }
     requires room { 512 * (log.columns + C.Code.ROWS) ≤ length row.old }
-    requires size { length cell.old ≡ 512 }
     ensures done { result ≡ Ok tt }
     ensures each { (c : ℕ) → c < log.columns + C.Code.ROWS → column_in row.new c ≡ rest (coding C.Code log.columns) (grow_step (coding C.Code log.columns) (B.Backplane.view plane.old) (flagged leave.now) stripe c) (B.Backplane.view plane.old) log.used (resume_at (coding C.Code log.columns) last) (column_in row.old c) }
     ensures kept { B.Backplane.view plane.new ≡ B.Backplane.view plane.old }
@@ -70,13 +68,12 @@ fn add_record<B: Backplane, C: Code>(
     stripe: u32,
     leave: &[bool; 16],
     row: &mut [u8],
-    cell: &mut [u8],
+    cell: &mut [u8; 512],
 ) -> Result<(), BackplaneFault>
     requires fits { LogFits (B.Backplane.view plane.old) log }
     requires within { at + 1 ≤ log.used }
     requires column { column_below log.columns head }
     requires room { 512 * (log.columns + C.Code.ROWS) ≤ length row.old }
-    requires size { length cell.old ≡ 512 }
     ensures done { result ≡ Ok tt }
     ensures each { (c : ℕ) → c < log.columns + C.Code.ROWS → column_in row.new c ≡ grow_step (coding C.Code log.columns) (B.Backplane.view plane.old) (flagged leave.now) stripe c at head (column_in row.old c) }
     ensures kept { B.Backplane.view plane.new ≡ B.Backplane.view plane.old }
@@ -98,8 +95,9 @@ fn add_shares<C: Code>(k: u8, column: u8, delta: &[u8], leave: &[bool; 16], row:
     requires room { 512 * (k + C.Code.ROWS) ≤ length row.old }
     ensures { (c : ℕ) → c < k + C.Code.ROWS → column_in row.new c ≡ shared_to (coding C.Code k) (flagged leave.now) column delta.now c (column_in row.old c) }
 {
-    for r in 0..C::ROWS {
-        if !leave[k as usize + r] {
+    let of_checks = &leave[k as usize..k as usize + C::ROWS];
+    for (r, is_left) in of_checks.iter().enumerate() {
+        if !*is_left {
             add_to_column::<C>(k, r, column, delta, row);
         }
     }

@@ -50,6 +50,9 @@ pub fn row_of_stripe<B: Backplane, C: Code>(
         columns: shape.slots,
         number: stripe,
     };
+    let Ok(cell) = <&mut [u8; CELL]>::try_from(cell) else {
+        return Err(RowError::NoRow);
+    };
     fill_row::<B, C>(plane, shape, stripe, row, cell)?;
     Ok(())
 }
@@ -72,9 +75,12 @@ pub fn add_pending_to_column<B: Backplane, C: Code>(
     let Some(shape) = open_shape::<B, C>(plane, header) else {
         return Err(RowError::NoRow);
     };
-    if !has_room(row.len(), cell.len()) {
+    if row.len() < ROW {
         return Err(RowError::NoRow);
     }
+    let Ok(cell) = <&mut [u8; CELL]>::try_from(cell) else {
+        return Err(RowError::NoRow);
+    };
     add_pending_only::<B, C>(plane, shape, header, stripe, column, row, cell)?;
     Ok(())
 }
@@ -133,19 +139,19 @@ fn is_repairable<B: Backplane, C: Code>(plane: &B, stripe: Stripe) -> bool
 }
 
 // Reads the columns of a stripe that is not past repair, adds the pending shares, and solves the lost columns.
+// The row is a slice: tried as 8,192 bytes by type, and the proof of the answers over the lent chunk did not close.
 fn fill_row<B: Backplane, C: Code>(
     plane: &mut B,
     shape: Shape,
     stripe: Stripe,
     row: &mut [u8],
-    cell: &mut [u8],
+    cell: &mut [u8; 512],
 ) -> Result<(), BackplaneFault>
     requires fits { OpenFits C.Code.ROWS (B.Backplane.view plane.old) stripe.header.now shape }
     requires columns { stripe.columns ≡ shape.slots }
     requires stripe { stripe.number < (B.Backplane.view plane.old).blocks }
     requires repairable { missing shape.slots (B.Backplane.view plane.old).live (good_of stripe.header.now) stripe.number ≤ C.Code.ROWS }
     requires room { 8192 ≤ length row.old }
-    requires size { length cell.old ≡ 512 }
     ensures done { result ≡ Ok tt }
     ensures row { HoldsRow (coding C.Code shape.columns) (B.Backplane.view plane.old) stripe.entry.header.now stripe.entry.number row.new }
     ensures kept { B.Backplane.view plane.new ≡ B.Backplane.view plane.old }
@@ -179,21 +185,21 @@ fn read_columns<B: Backplane>(
     ensures each { (c : ℕ) → c < n → column_in row.new c ≡ (if flagged lost.now c then zeros else (B.Backplane.view plane.old).block (slot_of n stripe c) stripe) }
     ensures kept { B.Backplane.view plane.new ≡ B.Backplane.view plane.old }
 {
-    for c in 0..n {
-        if lost[c as usize] {
+    for (c, is_lost) in lost[..n as usize].iter().enumerate() {
+        if *is_lost {
             wipe_column(c, row);
         } else {
-            read_column(plane, n, stripe, c, row)?;
+            read_column(plane, n, stripe, c as u8, row)?;
         }
     }
     Ok(())
 }
 
-fn wipe_column(column: u8, row: &mut [u8])
+fn wipe_column(column: usize, row: &mut [u8])
     requires { 512 * column + 512 ≤ length row.old }
     ensures { ColumnPut column zeros row.old row.new }
 {
-    let at = 512 * column as usize;
+    let at = 512 * column;
     wipe(&mut row[at..at + 512]);
 }
 
@@ -229,11 +235,10 @@ fn add_pending_only<B: Backplane, C: Code>(
     stripe: u32,
     column: u8,
     row: &mut [u8],
-    cell: &mut [u8],
+    cell: &mut [u8; 512],
 ) -> Result<(), BackplaneFault>
     requires fits { OpenFits C.Code.ROWS (B.Backplane.view plane.old) header.now shape }
     requires room { 8192 ≤ length row.old }
-    requires size { length cell.old ≡ 512 }
     ensures done { result ≡ Ok tt }
     ensures each { Settled (coding C.Code shape.columns) (B.Backplane.view plane.old) header.now stripe column row.old row.new }
     ensures kept { B.Backplane.view plane.new ≡ B.Backplane.view plane.old }

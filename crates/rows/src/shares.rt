@@ -1,5 +1,5 @@
 // What a block at a data column adds to the check blocks of its row.
-ghost use Rattle.std.specs.Prelude.{◌≡◌, ℕ, ◌<◌, ◌≤◌, min, map, length, bit_xor};
+ghost use Rattle.std.specs.Prelude.{◌≡◌, ℕ, ◌<◌, ◌≤◌, min, map, length};
 ghost use Rattle.codes.specs.Code.{share_of};
 ghost use Rattle.layout.specs.Bytes.{sum_of, summed_to};
 ghost use Rattle.model.specs.Coding.{share};
@@ -12,16 +12,9 @@ pub fn add_share<C: Code>(r: usize, column: usize, block: &[u8], target: &mut [u
     ensures after { target.new ≡ summed_to target.old (map (share_of C.Code.check C.Code.ROWS r column) block.now) (min (length target.old) (length block.now)) target.old }
     ensures whole { (k : ℕ) → column < k → k ≤ 12 → r < C.Code.ROWS → length block.now ≡ 512 → length target.old ≡ 512 → target.new ≡ sum_of target.old (share (coding C.Code k) r column block.now) }
 {
-    // by index: tried as a zip over iter_mut, and the proof of what it writes did not close
+    // no zip: of what is written through one a proof knows nothing
     let n = target.len().min(block.len());
-    for i in 0..n {
-        target[i] = with_share::<C>(r, column, block[i], target[i]);
+    for (i, check) in target[..n].iter_mut().enumerate() {
+        *check ^= C::share(r, column, block[i]);
     }
-}
-
-// A check byte with the share of a data byte added.
-fn with_share<C: Code>(r: usize, column: usize, byte: u8, check: u8) -> u8
-    ensures { result ≡ bit_xor check (share_of C.Code.check C.Code.ROWS r column byte) }
-{
-    check ^ C::share(r, column, byte)
 }

@@ -17,14 +17,14 @@ pub fn solve_row<C: Code>(k: usize, row: &mut [u8], lost: &[bool]) -> Result<(),
     ensures solved { OnOk result (RowSolved C.Code.solved k (length lost.now) lost.now row.old row.new) }
     ensures refused { OnErr result (row.new ≡ row.old) }
 {
-    if !(is_solvable::<C>(k, lost) & has_room(lost.len(), row.len())) {
+    if !(is_solvable::<C>(k, lost) & holds_columns(lost.len(), row.len())) {
         return Err(RowError::NoRow);
     }
     solve_places::<C>(k, row, lost);
     Ok(())
 }
 
-fn has_room(columns: usize, bytes: usize) -> bool
+fn holds_columns(columns: usize, bytes: usize) -> bool
     ensures { result ≡ nat_le (512 * columns) bytes }
 {
     columns <= bytes / 512

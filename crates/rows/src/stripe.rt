@@ -32,26 +32,16 @@ impl Stripe<'_> {
     pub fn lost_columns<B: Backplane>(self, plane: &B) -> [bool; 16]
         ensures { result ≡ lost_flags self.entry.columns (B.Backplane.view plane.now).live (good_of self.entry.header.now) self.entry.number }
     {
-        // a loop: tried with from_fn, and the proof over the closure's calls did not close
-        let mut lost = [false; 16];
-        for c in 0..16 {
-            lost[c] = self.is_lost(plane, c as u8);
-        }
-        lost
+        std::array::from_fn(|c| self.is_lost(plane, c as u8))
     }
 
     // How many columns are lost.
     pub fn count_lost<B: Backplane>(self, plane: &B) -> u32
         ensures { result ≡ missing self.entry.columns (B.Backplane.view plane.now).live (good_of self.entry.header.now) self.entry.number }
     {
-        // a loop: tried with filter and count, and the proof over the closure's calls did not close
-        let mut lost = 0;
-        for c in 0..self.columns {
-            if self.is_lost(plane, c) {
-                lost += 1;
-            }
-        }
-        lost
+        (0..self.columns)
+            .filter(|c| self.is_lost(plane, *c))
+            .count() as u32
     }
 
     // The good stripes of a slot, none past the last slot.

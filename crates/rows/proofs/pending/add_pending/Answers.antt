@@ -23,7 +23,7 @@ returns-clause-each g c =
     let row : List ℕ = c.args.row.now in
     let leave = c.args.leave.now in
     let f = c.requires.fits in
-    let last = there c.in_ok-last.last (last_parity K p u s) (c.in_ok-last.ensures.value (readable u c.args.cell.now p f.power f.cells c.requires.size)) in
+    let last = there c.in_ok-last.last (last_parity K p u s) (c.in_ok-last.ensures.value (readable u c.args.cell.now p f.power f.cells c.told-cell)) in
     λ j l. c.add_after.ensures.each j l
     ∙ ap (λ (q : Bytes). rest K (grow_step K q (flagged leave) s j) q u (resume_at K c.in_ok-last.last) (column_in row j)) c.in_ok-last.ensures.kept
     ∙ ap (λ (o : Option ℕ). rest K (grow_step K p (flagged leave) s j) p u (resume_at K o) (column_in row j)) last

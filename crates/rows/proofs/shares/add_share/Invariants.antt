@@ -4,4 +4,4 @@ use Rattle.layout.specs.Bytes.{summed_to}
 use Rattle.rows.proofs.shares.add_share.Given as goal
 
 abbrev pub invariant-loop-i : goal.invariant-loop-i
-invariant-loop-i g l = l.target ≡ summed_to l.initial.target (map (share_of g.C.Code.check g.C.Code.ROWS l.r l.column) l.block) l.i l.initial.target
+invariant-loop-i g l = l.check-items ≡ summed_to l.initial.check-items (map (share_of g.C.Code.check g.C.Code.ROWS l.r l.column) l.block) l.i l.initial.check-items
