@@ -1,5 +1,7 @@
 -- Stripes with pending records, as marks.
-use Rattle.std.specs.Prelude.{◌≡◌, ℕ, ◌*◌, ◌<◌, Bool, true, false, cond, List, [], ◌∷◌, Some, None, Option, ◌==◌, nat_lt}
+use Rattle.std.specs.Prelude.{◌≡◌, ℕ, ◌*◌, ◌<◌, Bool, true, false, cond, List, [], ◌∷◌, length, Some, None, Option, ◌==◌, nat_lt}
+use Rattle.backplane.specs.Plane.{to_cell}
+use Rattle.backplane.specs.Meaning.{Bytes, fault_of}
 use Rattle.backplane.specs.declared.fault.BackplaneFault.{BackplaneFault}
 use Rattle.backplane.specs.declared.fault.BackplaneFault.TheVariants.{NoPlace}
 use Rattle.layout.specs.Counts.{count, lowest, first_of}
@@ -18,6 +20,10 @@ owing_after (OfParity s) t b = cond (t == s) false b
 abbrev pub room_fault : Option BackplaneFault → ℕ → ℕ → Option BackplaneFault
 room_fault (Some f) bytes stripes = Some f
 room_fault None bytes stripes = cond (nat_lt (8 * bytes) stripes) (Some NoPlace) None
+
+-- the fault of marking, by these bytes, the stripes of a log in cells 1 to u, with x for a cell
+abbrev pub marks_fault : ℕ → List ℕ → List ℕ → Bytes → Option BackplaneFault
+marks_fault u map x p = room_fault (fault_of (to_cell u x) p) (length map) p.blocks
 
 -- the lowest of so many stripes that has pending records, if one has
 abbrev pub lowest_owing : {B : Type 0} → Coding B → ℕ → List (Rec B) → Option ℕ

@@ -1,4 +1,4 @@
-// The log as it stands in the cells: its walk, its pending records, and what they mean for the row of a stripe.
+// The log as it stands in the cells: its walk, and its pending records by stripe.
 #![tactic(auto)]
 
 pub mod log;

@@ -1,5 +1,5 @@
 // The log's place in the cells, and a cursor over its records.
-ghost use Rattle.std.specs.Prelude.{◌≡◌, ◌+◌, ◌≤◌};
+ghost use Rattle.std.specs.Prelude.{◌≡◌, ◌+◌, ◌≤◌, MatchResult, if◌then◌else◌, nat_lt};
 ghost use Rattle.layout.specs.Head.{record_cells};
 ghost use Rattle.parity_log.specs.Codes.{coding};
 ghost use Rattle.parity_log.specs.Walks.{head_within, resume_at, Next};
@@ -42,15 +42,11 @@ impl Log {
         ensures { result ≡ head_within (coding C.Code self.columns) stripes self.used at bytes.now }
     {
         let head = decode_head(self.columns, stripes, bytes)?;
-        if at as u64 + cells_of::<C>(head) <= self.used as u64 + 1 {
-            Some(head)
-        } else {
-            None
-        }
+        (at as u64 + cells_of::<C>(head) <= self.used as u64 + 1).then_some(head)
     }
 }
 
-// The records of a log from the one on that begins in cell `at`.
+// The records of a log from the one on that begins in cell `at`. No `Iterator`: the body of a walk needs the backplane too.
 #[derive(Clone, Copy, Debug, PartialEq, Eq)]
 pub struct Records {
     pub log: Log,
@@ -67,6 +63,7 @@ impl Records {
     ) -> Result<Option<(u32, Head)>, BackplaneFault>
         ensures next { Next (coding C.Code self.old.log.columns) (B.Backplane.view plane.old) self.old.log.used self.old.at buf.old result self.new.at }
         ensures log { self.new.log ≡ self.old.log }
+        ensures buf { MatchResult result (λ _. buf.new ≡ (if nat_lt self.old.log.used self.old.at then buf.old else (B.Backplane.view plane.old).cell self.old.at)) (λ _. buf.new ≡ buf.old) }
         ensures kept { B.Backplane.view plane.new ≡ B.Backplane.view plane.old }
     {
         if self.at > self.log.used as u64 {

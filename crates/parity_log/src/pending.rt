@@ -1,5 +1,5 @@
 // The pending records of a stripe: its write records after its last parity record, if it has one.
-ghost use Rattle.std.specs.Prelude.{◌≡◌, None, Ok};
+ghost use Rattle.std.specs.Prelude.{◌≡◌, ℕ, ◌≤◌, Some, None, Ok, IfOk, IfErr};
 ghost use Rattle.backplane.specs.Plane.{to_cell};
 ghost use Rattle.backplane.specs.Meaning.{fault_of};
 ghost use Rattle.model.specs.Log.{walk, pending};
@@ -53,6 +53,8 @@ impl Log {
         stripe: u32,
         buf: &mut [u8],
     ) -> Result<Option<u32>, BackplaneFault>
+        ensures found { IfOk result (λ last. last ≡ last_parity (coding C.Code self.columns) (B.Backplane.view plane.old) self.used stripe) }
+        ensures fault { IfErr result (λ f. (i : ℕ) × (i ≤ self.used) × (fault_of (to_cell i buf.old) (B.Backplane.view plane.old) ≡ Some f)) }
         ensures value { fault_of (to_cell self.used buf.old) (B.Backplane.view plane.old) ≡ None → result ≡ Ok (last_parity (coding C.Code self.columns) (B.Backplane.view plane.old) self.used stripe) }
         ensures kept { B.Backplane.view plane.new ≡ B.Backplane.view plane.old }
     {
@@ -98,8 +100,5 @@ fn later_parity(stripe: u32, at: u32, head: Head, last: Option<u32>) -> Option<u
 fn is_write_of(stripe: u32, head: Head) -> bool
     ensures { result ≡ is_write_of stripe head }
 {
-    match head {
-        Head::OfWrite(of, _) => stripe == of,
-        Head::OfParity(_) => false,
-    }
+    matches!(head, Head::OfWrite(of, _) if stripe == of)
 }

@@ -6,7 +6,7 @@ ghost use Rattle.layout.specs.Marks.{marked};
 ghost use Rattle.model.specs.Log.{walk, owing, owed};
 ghost use Rattle.parity_log.specs.Codes.{coding};
 ghost use Rattle.parity_log.specs.Faults.{or_fault};
-ghost use Rattle.parity_log.specs.Pending.{owing_after, room_fault, lowest_owing, with_write, MarksOwing};
+ghost use Rattle.parity_log.specs.Pending.{owing_after, marks_fault, lowest_owing, with_write, MarksOwing};
 
 use crate::log::Log;
 use backplane::Backplane;
@@ -27,7 +27,7 @@ impl Log {
         map: &mut [u8],
         buf: &mut [u8],
     ) -> Result<u32, LogFault>
-        ensures value { result ≡ or_fault (room_fault (fault_of (to_cell self.used buf.old) (B.Backplane.view plane.old)) (length map.old) (B.Backplane.view plane.old).blocks) (Ok (owed (coding C.Code self.columns) (B.Backplane.view plane.old).blocks (with_write more (walk (coding C.Code self.columns) (B.Backplane.view plane.old) self.used).log))) }
+        ensures value { result ≡ or_fault (marks_fault self.used map.old buf.old (B.Backplane.view plane.old)) (Ok (owed (coding C.Code self.columns) (B.Backplane.view plane.old).blocks (with_write more (walk (coding C.Code self.columns) (B.Backplane.view plane.old) self.used).log))) }
         ensures kept { B.Backplane.view plane.new ≡ B.Backplane.view plane.old }
     {
         self.mark_pending::<B, C>(plane, more, map, buf)?;
@@ -42,7 +42,7 @@ impl Log {
         map: &mut [u8],
         buf: &mut [u8],
     ) -> Result<Option<u32>, LogFault>
-        ensures value { result ≡ or_fault (room_fault (fault_of (to_cell self.used buf.old) (B.Backplane.view plane.old)) (length map.old) (B.Backplane.view plane.old).blocks) (Ok (lowest_owing (coding C.Code self.columns) (B.Backplane.view plane.old).blocks (walk (coding C.Code self.columns) (B.Backplane.view plane.old) self.used).log)) }
+        ensures value { result ≡ or_fault (marks_fault self.used map.old buf.old (B.Backplane.view plane.old)) (Ok (lowest_owing (coding C.Code self.columns) (B.Backplane.view plane.old).blocks (walk (coding C.Code self.columns) (B.Backplane.view plane.old) self.used).log)) }
         ensures kept { B.Backplane.view plane.new ≡ B.Backplane.view plane.old }
     {
         self.mark_pending::<B, C>(plane, None, map, buf)?;
@@ -58,7 +58,7 @@ impl Log {
         map: &mut [u8],
         buf: &mut [u8],
     ) -> Result<(), LogFault>
-        ensures value { result ≡ or_fault (room_fault (fault_of (to_cell self.used buf.old) (B.Backplane.view plane.old)) (length map.old) (B.Backplane.view plane.old).blocks) (Ok tt) }
+        ensures value { result ≡ or_fault (marks_fault self.used map.old buf.old (B.Backplane.view plane.old)) (Ok tt) }
         ensures marks { MatchResult result (λ _. MarksOwing (coding C.Code self.columns) (B.Backplane.view plane.old).blocks (with_write more (walk (coding C.Code self.columns) (B.Backplane.view plane.old) self.used).log) map.new) (λ _. map.new ≡ map.old) }
         ensures kept { B.Backplane.view plane.new ≡ B.Backplane.view plane.old }
     {

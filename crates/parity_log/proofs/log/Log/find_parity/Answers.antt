@@ -31,12 +31,15 @@ loop-at-preserved g c =
       found = ap (λ (o : Option ℕ). rest K (parity_at s) v u j o) c.later_parity-last.ensures ∙ rest-met K v u c.loop-at.records.at c.in-Some.at c.in-Some.head j (parity_at s) c.loop-at.last m ∙ inv.found;
     }
 
-pub returns-clause-value : goal.returns-clause-value
-returns-clause-value g c =
+pub returns-clause-found : goal.returns-clause-found
+returns-clause-found g c =
     let v = g.B.Backplane.view c.args.plane.now in
     let K = coding g.C.Code c.args.self.columns in
     let u = c.args.self.used in
     let s = c.args.stripe in
     let inv = c.loop-at.invariant in
     let over = next-none g.C.Code (g.B.Backplane.view c.loop-at.plane) v c.loop-at.records.log c.args.self c.loop-at.records.at c.loop-at.buf c.next.new.self.at inv.view inv.log c.in_ok-at.field-0 c.in_ok-at.ensures.next c.in_default.is in
-    λ there. ap Ok (sym (rest-over K v u c.loop-at.records.at c.loop-at.buf (parity_at s) c.loop-at.last over.0) ∙ inv.found)
+    sym (rest-over K v u c.loop-at.records.at c.loop-at.buf (parity_at s) c.loop-at.last over.0) ∙ inv.found
+
+pub returns-clause-value : goal.returns-clause-value
+returns-clause-value g c = λ there. ap Ok (returns-clause-found g c)
