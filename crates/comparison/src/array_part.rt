@@ -280,7 +280,7 @@ impl<C: Code + Drop> Pair<'_, C> {
         let passes = source.below(14);
         let fresh = source.pick(&[0, 1, 511, 512, 513, 256]);
         let taken = self.array.backplane.set(passes, fresh).is_ok();
-        let expected = self.reference.device.set_fuse(passes, fresh);
+        let expected = self.reference.device.set_fuse(passes, fresh).is_ok();
         self.tally.differ(taken != expected);
     }
 

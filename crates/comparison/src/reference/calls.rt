@@ -76,10 +76,11 @@ impl Refusal {
     }
 
     pub(crate) fn layer(self) -> Layer {
-        match self.number() {
-            12 | 13 | 20 => Layer::Backplane,
-            16 | 17 | 19 => Layer::Log,
-            3 | 4 | 15 => Layer::Stripe,
+        match self {
+            Refusal::Live | Refusal::Dead | Refusal::Cut(_) => Layer::Backplane,
+            Refusal::Full(_) | Refusal::Pending(_) => Layer::Log,
+            Refusal::Damaged(_) | Refusal::Overfull => Layer::Log,
+            Refusal::NoBlock | Refusal::NoStripe | Refusal::PastRepair(_, _) => Layer::Stripe,
             _ => Layer::Array,
         }
     }
@@ -149,12 +150,6 @@ fn put_number(x: &mut Block, at: usize, n: usize) {
     for (place, byte) in x.iter_mut().skip(at).zip(bytes.iter().take(4)) {
         *place = *byte;
     }
-}
-
-fn sum(x: Block, y: Block) -> Block {
-    let mut both = x;
-    checks::gather(&mut both, 1, &y);
-    both
 }
 
 #[derive(Drop)]
@@ -436,7 +431,8 @@ impl Reference {
 
     fn write_stores(&mut self, s: usize, c: usize, new: Block) -> Result<(), Refusal> {
         let row = self.row(s);
-        let delta = sum(checks::column(&row, c), new);
+        let mut delta = checks::column(&row, c);
+        checks::gather(&mut delta, 1, &new);
         let mut head = ZEROS;
         head[0] = 1;
         head[1] = (c % 256) as u8;
