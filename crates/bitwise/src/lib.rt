@@ -1,7 +1,7 @@
 // Products of bytes bit by bit, with no tables: what the programs compare the array's codes with. No code is shared with those.
 #![tactic(auto)]
 
-ghost use Rattle.std.specs.Prelude.{◌≡◌, ℕ, ◌<◌, slice_index_or, false};
+ghost use Rattle.std.specs.Prelude.{◌≡◌, ℕ, ◌<◌, bit_xor, slice_index, slice_index_or, false};
 ghost use Rattle.bitwise.specs.Bitwise.{times_x, product, power, bit};
 
 fn times_x(a: u8) -> u8
@@ -40,6 +40,15 @@ pub fn power_of_two(e: usize) -> u8
         p = times_x(p);
     }
     p
+}
+
+// Adds `w` times `x` to a sum, byte by byte; bytes past the end of `x` count as zeros.
+pub fn add_times<const N: usize>(sum: &mut [u8; N], w: u8, x: &[u8])
+    ensures { (i : ℕ) → i < N → slice_index sum.new i ≡ bit_xor (slice_index sum.old i) (product 8 w (slice_index x.now i)) }
+{
+    for (i, s) in sum.iter_mut().enumerate() {
+        *s ^= times(w, x.get(i).copied().unwrap_or(0));
+    }
 }
 
 // The flags of the set bits of a mask, from the lowest on.
