@@ -4,6 +4,7 @@ ghost use Rattle.std.specs.Iterator.{at_most};
 use crate::reference::checks;
 use crate::reference::checks::{Block, ZEROS};
 use crate::reference::device::{CutAt, Device};
+use bitwise::add_times;
 
 // Why a call was refused.
 #[derive(Clone, Copy)]
@@ -282,7 +283,7 @@ impl Reference {
                 Ok(r) if r.stripe == s => match r.kind {
                     Kind::Write(c) => {
                         let delta = self.device.cell(r.at.saturating_add(1));
-                        checks::gather(&mut total, checks::weight(row, c), &delta);
+                        add_times(&mut total, checks::weight(row, c), &delta);
                     }
                     Kind::Fold => total = ZEROS,
                 },
@@ -314,7 +315,7 @@ impl Reference {
         for (c, x) in row.iter_mut().take(self.device.slots()).enumerate() {
             *x = self.device.block(self.slot(s, c), s);
             if c >= k {
-                checks::gather(x, 1, &self.pending_sum(s, c - k));
+                add_times(x, 1, &self.pending_sum(s, c - k));
             }
         }
         row
@@ -432,7 +433,7 @@ impl Reference {
     fn write_stores(&mut self, s: usize, c: usize, new: Block) -> Result<(), Refusal> {
         let row = self.row(s);
         let mut delta = checks::column(&row, c);
-        checks::gather(&mut delta, 1, &new);
+        add_times(&mut delta, 1, &new);
         let mut head = ZEROS;
         head[0] = 1;
         head[1] = (c % 256) as u8;
@@ -588,7 +589,7 @@ impl Reference {
         if let Some(c) = column {
             let mut x = checks::column(&self.row(s), c);
             if c >= k {
-                checks::gather(&mut x, 1, &self.pending_sum(s, c - k));
+                add_times(&mut x, 1, &self.pending_sum(s, c - k));
             }
             self.device.store_block(d, s, x)?;
         }

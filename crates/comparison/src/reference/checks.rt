@@ -1,5 +1,5 @@
 // Check blocks and lost columns, by products that are made bit by bit.
-use bitwise::{power_of_two, times};
+use bitwise::{add_times, power_of_two, times};
 
 pub type Block = [u8; 512];
 
@@ -13,13 +13,6 @@ fn inverse(a: u8) -> u8 {
 // What column `j` is multiplied by in check row `r`: 2 to the power r * j.
 pub(crate) fn weight(r: usize, j: usize) -> u8 {
     power_of_two(r.saturating_mul(j))
-}
-
-// Adds `w` times `x` to a sum, byte by byte.
-pub(crate) fn gather(sum: &mut Block, w: u8, x: &Block) {
-    for (s, b) in sum.iter_mut().zip(x.iter()) {
-        *s = *s ^ times(w, *b);
-    }
 }
 
 // The block at a place of a row, zeros where there is none.
@@ -37,7 +30,7 @@ fn put(row: &mut [Block], c: usize, x: Block) {
 fn check_of(row: &[Block], k: usize, r: usize) -> Block {
     let mut sum = ZEROS;
     for (j, x) in row.iter().take(k).enumerate() {
-        gather(&mut sum, weight(r, j), x);
+        add_times(&mut sum, weight(r, j), x);
     }
     sum
 }
@@ -71,7 +64,7 @@ impl Equation {
             if is_lost(lost, j) {
                 *w = weight(r, j);
             } else {
-                gather(&mut sum, weight(r, j), &column(row, j));
+                add_times(&mut sum, weight(r, j), &column(row, j));
             }
         }
         Equation {
@@ -87,10 +80,8 @@ impl Equation {
 
     // Adds `w` times `other`.
     fn add(&mut self, w: u8, other: &Equation) {
-        for (x, y) in self.weights.iter_mut().zip(other.weights.iter()) {
-            *x = *x ^ times(w, *y);
-        }
-        gather(&mut self.sum, w, &other.sum);
+        add_times(&mut self.weights, w, &other.weights);
+        add_times(&mut self.sum, w, &other.sum);
     }
 
     // Divided so that it names column `j` once, which it gives.
