@@ -280,7 +280,7 @@ impl<C: Code + Drop> Pair<'_, C> {
         let passes = source.below(14);
         let fresh = source.pick(&[0, 1, 511, 512, 513, 256]);
         let taken = self.array.backplane.set(passes, fresh).is_ok();
-        let expected = self.reference.device.set_fuse(passes, fresh);
+        let expected = self.reference.device.set_fuse(passes, fresh).is_ok();
         self.tally.differ(taken != expected);
     }
 
@@ -331,9 +331,10 @@ impl<C: Code + Drop> Pair<'_, C> {
     }
 }
 
-// How a list of calls goes.
+// How a list of calls goes, and on what array.
 #[derive(Clone, Copy)]
 struct Plan {
+    sizes: Sizes,
     seed: u64,
     length: usize,
     // whether cells are damaged now and then
@@ -343,10 +344,10 @@ struct Plan {
 fn compare_list<C: Code + Drop>(
     heap: Global,
     code: C,
-    sizes: Sizes,
     plan: Plan,
     tally: CallTally,
 ) -> Result<CallTally, AllocError> {
+    let sizes = plan.sizes;
     let Sizes {
         slots,
         blocks,
@@ -394,11 +395,12 @@ pub(crate) fn compare_lists<C: Code + Drop + Copy>(
     let mut tally = before;
     for seed in 0..lists {
         let plan = Plan {
+            sizes,
             seed,
             length: 120,
             damaged: seed % 3 == 2,
         };
-        tally = compare_list(heap, code, sizes, plan, tally)?;
+        tally = compare_list(heap, code, plan, tally)?;
     }
     Ok(tally)
 }

@@ -4,6 +4,7 @@ use codes::{Code, RowFault};
 use std::alloc::{AllocError, Global};
 
 // The bytes at one place of all columns, those of data first; zeros behind the last.
+// Of a fixed length: tried with a const parameter N, and the part of such a row owes N < 2^63, which nothing knows.
 type Row = [u8; 16];
 
 #[derive(Drop)]

@@ -6,6 +6,7 @@ mod checks;
 mod columns;
 mod week;
 
+use bitwise::flags;
 use codes::{Code, DoubleParity, SingleParity};
 use columns::Columns;
 use std::alloc::Global;
@@ -26,11 +27,6 @@ fn width<C: Code>() -> usize {
 struct Outcome {
     combinations: usize,
     whole: usize,
-}
-
-// The flags of the lost columns: those whose bit is set.
-fn flags(bits: u32) -> [bool; 16] {
-    std::array::from_fn(|c| c < 16 && (bits >> (c as u32)) & 1 == 1)
 }
 
 // Loses columns, restores them, and says whether the recording came back as it was.

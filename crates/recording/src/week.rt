@@ -114,10 +114,7 @@ impl fmt::Display for Week {
 
 // Whether this is the block of that number.
 fn is_block(recording: &[u8], number: u32, block: &[u8; 512]) -> bool {
-    match recording.chunks(512).nth(number as usize) {
-        Some(part) => part == block.as_slice(),
-        None => false,
-    }
+    recording.chunks(512).nth(number as usize) == Some(block.as_slice())
 }
 
 // The recording filled up with zeros to whole stripes, one at least.

@@ -4,6 +4,7 @@ ghost use Rattle.std.specs.Iterator.{at_most};
 use crate::reference::checks;
 use crate::reference::checks::{Block, ZEROS};
 use crate::reference::device::{CutAt, Device};
+use bitwise::add_times;
 
 // Why a call was refused.
 #[derive(Clone, Copy)]
@@ -76,10 +77,11 @@ impl Refusal {
     }
 
     pub(crate) fn layer(self) -> Layer {
-        match self.number() {
-            12 | 13 | 20 => Layer::Backplane,
-            16 | 17 | 19 => Layer::Log,
-            3 | 4 | 15 => Layer::Stripe,
+        match self {
+            Refusal::Live | Refusal::Dead | Refusal::Cut(_) => Layer::Backplane,
+            Refusal::Full(_) | Refusal::Pending(_) => Layer::Log,
+            Refusal::Damaged(_) | Refusal::Overfull => Layer::Log,
+            Refusal::NoBlock | Refusal::NoStripe | Refusal::PastRepair(_, _) => Layer::Stripe,
             _ => Layer::Array,
         }
     }
@@ -149,12 +151,6 @@ fn put_number(x: &mut Block, at: usize, n: usize) {
     for (place, byte) in x.iter_mut().skip(at).zip(bytes.iter().take(4)) {
         *place = *byte;
     }
-}
-
-fn sum(x: Block, y: Block) -> Block {
-    let mut both = x;
-    checks::gather(&mut both, 1, &y);
-    both
 }
 
 #[derive(Drop)]
@@ -287,7 +283,7 @@ impl Reference {
                 Ok(r) if r.stripe == s => match r.kind {
                     Kind::Write(c) => {
                         let delta = self.device.cell(r.at.saturating_add(1));
-                        checks::gather(&mut total, checks::weight(row, c), &delta);
+                        add_times(&mut total, checks::weight(row, c), &delta);
                     }
                     Kind::Fold => total = ZEROS,
                 },
@@ -319,7 +315,7 @@ impl Reference {
         for (c, x) in row.iter_mut().take(self.device.slots()).enumerate() {
             *x = self.device.block(self.slot(s, c), s);
             if c >= k {
-                checks::gather(x, 1, &self.pending_sum(s, c - k));
+                add_times(x, 1, &self.pending_sum(s, c - k));
             }
         }
         row
@@ -436,7 +432,8 @@ impl Reference {
 
     fn write_stores(&mut self, s: usize, c: usize, new: Block) -> Result<(), Refusal> {
         let row = self.row(s);
-        let delta = sum(checks::column(&row, c), new);
+        let mut delta = checks::column(&row, c);
+        add_times(&mut delta, 1, &new);
         let mut head = ZEROS;
         head[0] = 1;
         head[1] = (c % 256) as u8;
@@ -592,7 +589,7 @@ impl Reference {
         if let Some(c) = column {
             let mut x = checks::column(&self.row(s), c);
             if c >= k {
-                checks::gather(&mut x, 1, &self.pending_sum(s, c - k));
+                add_times(&mut x, 1, &self.pending_sum(s, c - k));
             }
             self.device.store_block(d, s, x)?;
         }

@@ -1,25 +1,9 @@
 // Check blocks and lost columns, by products that are made bit by bit.
+use bitwise::{add_times, power_of_two, times};
+
 pub type Block = [u8; 512];
 
 pub const ZEROS: Block = [0; 512];
-
-// The product of two bytes modulo x^8 + x^4 + x^3 + x^2 + 1, the bits of `b` from the lowest on.
-// The recording program has it too: each program stands alone, and the reference shares no code.
-pub(crate) fn times(a: u8, b: u8) -> u8 {
-    let mut sum = 0u8;
-    let mut shifted = a;
-    for i in 0..8u32 {
-        if (b >> i) & 1 == 1 {
-            sum ^= shifted;
-        }
-        let high = shifted >= 128;
-        shifted = shifted.wrapping_mul(2);
-        if high {
-            shifted ^= 0x1D;
-        }
-    }
-    sum
-}
 
 // The byte whose product with `a` is 1; 0 where there is none.
 fn inverse(a: u8) -> u8 {
@@ -28,14 +12,7 @@ fn inverse(a: u8) -> u8 {
 
 // What column `j` is multiplied by in check row `r`: 2 to the power r * j.
 pub(crate) fn weight(r: usize, j: usize) -> u8 {
-    (0..r.saturating_mul(j)).fold(1u8, |w, _| times(w, 2))
-}
-
-// Adds `w` times `x` to a sum, byte by byte.
-pub(crate) fn gather(sum: &mut Block, w: u8, x: &Block) {
-    for (s, b) in sum.iter_mut().zip(x.iter()) {
-        *s = *s ^ times(w, *b);
-    }
+    power_of_two(r.saturating_mul(j))
 }
 
 // The block at a place of a row, zeros where there is none.
@@ -53,7 +30,7 @@ fn put(row: &mut [Block], c: usize, x: Block) {
 fn check_of(row: &[Block], k: usize, r: usize) -> Block {
     let mut sum = ZEROS;
     for (j, x) in row.iter().take(k).enumerate() {
-        gather(&mut sum, weight(r, j), x);
+        add_times(&mut sum, weight(r, j), x);
     }
     sum
 }
@@ -87,7 +64,7 @@ impl Equation {
             if is_lost(lost, j) {
                 *w = weight(r, j);
             } else {
-                gather(&mut sum, weight(r, j), &column(row, j));
+                add_times(&mut sum, weight(r, j), &column(row, j));
             }
         }
         Equation {
@@ -103,10 +80,8 @@ impl Equation {
 
     // Adds `w` times `other`.
     fn add(&mut self, w: u8, other: &Equation) {
-        for (x, y) in self.weights.iter_mut().zip(other.weights.iter()) {
-            *x = *x ^ times(w, *y);
-        }
-        gather(&mut self.sum, w, &other.sum);
+        add_times(&mut self.weights, w, &other.weights);
+        add_times(&mut self.sum, w, &other.sum);
     }
 
     // Divided so that it names column `j` once, which it gives.
@@ -120,16 +95,12 @@ impl Equation {
 
 // Takes column `j` out of every equation but one that it names.
 fn eliminate(system: &mut [Equation], j: usize) {
-    let mut named = None;
-    for e in system.iter_mut() {
-        if named.is_none() && e.gives.is_none() && e.weight(j) != 0 {
-            *e = e.giving(j);
-            named = Some(*e);
-        }
-    }
-    let Some(pivot) = named else {
+    let mut open = system.iter_mut();
+    let Some(named) = open.find(|e| e.gives.is_none() && e.weight(j) != 0) else {
         return;
     };
+    *named = named.giving(j);
+    let pivot = *named;
     for e in system.iter_mut() {
         if e.gives != Some(j) {
             let w = e.weight(j);
@@ -151,10 +122,10 @@ fn lowest_rows(row: &[Block], lost: &[bool], k: usize, m: usize) -> [Equation; 4
 
 // The column that the equations give, once they are resolved.
 fn resolved(system: &[Equation], j: usize) -> Block {
-    match system.iter().find(|e| e.gives == Some(j)) {
-        Some(e) => e.sum,
-        None => ZEROS,
-    }
+    system
+        .iter()
+        .find(|e| e.gives == Some(j))
+        .map_or(ZEROS, |e| e.sum)
 }
 
 // Fills the lost columns of a row in: data from the lowest kept check rows, then checks from the data.

@@ -33,7 +33,12 @@ pub enum CutAt {
     OfCell(usize),
 }
 
+// More new bytes than a block has.
+#[derive(Drop)]
+pub struct PastBlock;
+
 impl Device {
+    // Three numbers and not the backplane's `Sizes`: the reference takes nothing from the array's crates.
     pub(crate) fn new(
         heap: Global,
         slots: usize,
@@ -64,10 +69,7 @@ impl Device {
     }
 
     pub(crate) fn is_live(&self, d: usize) -> bool {
-        match self.disks.get(d) {
-            Some(disk) => disk.live,
-            None => false,
-        }
+        self.disks.get(d).is_some_and(|disk| disk.live)
     }
 
     pub(crate) fn block(&self, d: usize, b: usize) -> Block {
@@ -95,13 +97,13 @@ impl Device {
         }
     }
 
-    // False for more than 512 new bytes, and the earlier setting stays.
-    pub(crate) fn set_fuse(&mut self, passes: u32, fresh: u32) -> bool {
+    // More than 512 new bytes are refused, and the earlier setting stays.
+    pub(crate) fn set_fuse(&mut self, passes: u32, fresh: u32) -> Result<(), PastBlock> {
         if fresh > 512 {
-            return false;
+            return Err(PastBlock);
         }
         self.fuse = Some(Fuse { passes, fresh });
-        true
+        Ok(())
     }
 
     // How many new bytes the next store lets through, if it is cut; one store fewer passes otherwise.
