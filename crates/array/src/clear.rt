@@ -6,8 +6,8 @@ ghost use Rattle.model.specs.Rules.{Clear, log_of};
 ghost use Rattle.array.specs.Calls.{view_of, coding_of, acked, reply_of, wiped, Follows};
 ghost use Rattle.array.specs.Ready.{Opens};
 
-use crate::array::{Array, WORK};
-use crate::parts::{Parts, split_work};
+use crate::array::Array;
+use crate::parts::{Parts, check_work, split_work};
 use crate::started::Started;
 use backplane::Backplane;
 use codes::Code;
@@ -27,9 +27,7 @@ impl<B: Backplane, C: Code> Array<B, C> {
         ensures does { Follows B.Backplane C.Code (Clear (length work.old)) self.old (reply_of acked result) self.new }
         ensures area { work.new ≡ wiped work.old }
     {
-        if work.len() < WORK {
-            return Err(ArrayFault::ShortWork);
-        }
+        check_work(work)?;
         let area = WorkArea(work);
         self.clear_in(area.0)
     }

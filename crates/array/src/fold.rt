@@ -11,9 +11,9 @@ ghost use Rattle.array.specs.Parity.{parity_stores};
 ghost use Rattle.array.specs.Ready.{Fits, Opens};
 ghost use Rattle.array.specs.Records.{appending};
 
-use crate::array::{Array, WORK};
+use crate::array::Array;
 use crate::parity::store_parity;
-use crate::parts::{Block, Parts, Row, split_work};
+use crate::parts::{Block, Parts, Row, check_work, split_work};
 use crate::records::lacks_room;
 use crate::row::{check_repairable, load_row};
 use crate::started::Started;
@@ -30,9 +30,7 @@ impl<B: Backplane, C: Code> Array<B, C> {
         ensures does { Follows B.Backplane C.Code (Fold stripe (length work.old)) self.old (reply_of of_number result) self.new }
         ensures area { work.new ≡ wiped work.old }
     {
-        if work.len() < WORK {
-            return Err(ArrayFault::ShortWork);
-        }
+        check_work(work)?;
         let area = WorkArea(work);
         self.fold_in(stripe, area.0)
     }
@@ -63,7 +61,7 @@ impl<B: Backplane, C: Code> Array<B, C> {
         ensures { Ended B.Backplane C.Code (fold_open (coding_of B.Backplane C.Code self.old) (view_of B.Backplane C.Code self.old) started.now.header stripe) self.old (reply_of of_number result) self.new }
     {
         let Parts { row, cell, .. } = parts;
-        let records = judge_fold::<B, C>(&mut self.backplane, started, stripe, cell)?;
+        let records = check_fold::<B, C>(&mut self.backplane, started, stripe, cell)?;
         if records == 0 {
             return Ok(0);
         }
@@ -94,7 +92,7 @@ impl<B: Backplane, C: Code> Array<B, C> {
         self.store_folded(started, counted, stripe, records, &head, row, &cell)
     }
 
-    // No header is held from the first store to the last, so that a cut leaves the array not started.
+    // No header is held from the first store to the last, so that a cut leaves the array not started. Not by `hold_after`: the proof does not close over stores in phases.
     fn store_folded(
         &mut self,
         started: &Started,
@@ -118,7 +116,7 @@ impl<B: Backplane, C: Code> Array<B, C> {
 }
 
 // How many records of a stripe are pending. Refuses a log that has no room for the parity record, and a stripe that is past repair.
-fn judge_fold<B: Backplane, C: Code>(
+fn check_fold<B: Backplane, C: Code>(
     plane: &mut B,
     started: &Started,
     stripe: u32,
@@ -129,7 +127,7 @@ fn judge_fold<B: Backplane, C: Code>(
     ensures kept { B.Backplane.view plane.new ≡ B.Backplane.view plane.old }
 {
     let records = count_records::<B, C>(plane, started, stripe, cell);
-    if (0 < records) & lacks_room::<C>(started, 0, 1) {
+    if 0 < records && lacks_room::<C>(started, 0, 1) {
         return Err(ArrayFault::NotStarted);
     }
     check_repairable::<B, C>(plane, started, stripe)?;

@@ -9,8 +9,8 @@ ghost use Rattle.array.specs.Formats.{first_of, formatted_by};
 ghost use Rattle.array.specs.Calls.{view_of, coding_of, shape_for, acked, reply_of, wiped, fill_disk, fill_disks, Performed, PerformedIn, Made, Same, Ended};
 ghost use Rattle.array.specs.Ready.{Sized, Kept};
 
-use crate::array::{Array, WORK};
-use crate::parts::{Block, Parts, split_work};
+use crate::array::Array;
+use crate::parts::{Block, Parts, check_work, split_work};
 use crate::places::{put_block, put_cell};
 use backplane::Backplane;
 use backplane::fault::BackplaneFault;
@@ -112,9 +112,7 @@ impl<B: Backplane, C: Code> Array<B, C> {
         ensures does { Ended B.Backplane C.Code (formatting (coding_of B.Backplane C.Code self.old) (view_of B.Backplane C.Code self.old) (length work.old)) self.old (reply_of acked result) self.new }
         ensures area { work.new ≡ wiped work.old }
     {
-        if work.len() < WORK {
-            return Err(ArrayFault::ShortWork);
-        }
+        check_work(work)?;
         let area = WorkArea(work);
         self.format_in(area.0)
     }
@@ -172,7 +170,7 @@ impl<B: Backplane, C: Code> Array<B, C> {
     {
         store_formatted(
             &mut self.backplane,
-            shape.slots as u32,
+            u32::from(shape.slots),
             shape.blocks,
             zero,
             cell,

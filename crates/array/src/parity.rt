@@ -85,7 +85,7 @@ fn store_check<B: Backplane>(
     Ok(())
 }
 
-// The check blocks of a row on their disks, where their columns are good.
+// The check blocks of a row on their disks, where their columns are good. One loop for this and `store_checks` would take the step as a closure, and its clauses would be longer than the loop.
 fn finish_checks<B: Backplane>(
     plane: &mut B,
     started: &Started,

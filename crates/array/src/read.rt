@@ -25,6 +25,7 @@ impl<B: Backplane, C: Code> Array<B, C> {
         ensures kept { OnErr result (into.new ≡ into.old) }
         ensures area { work.new ≡ wiped work.old }
     {
+        // a block of another length is told before a short work area, and an area that is long enough is wiped all the same
         if work.len() < WORK {
             if into.len() != BLOCK {
                 return Err(ArrayFault::BlockLength);

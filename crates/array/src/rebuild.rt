@@ -9,8 +9,8 @@ ghost use Rattle.array.specs.Calls.{view_of, coding_of, shape_for, reply_of, wip
 ghost use Rattle.array.specs.Ready.{Ready, Opens};
 ghost use Rattle.array.specs.Repairs.{NextStripe, repairs};
 
-use crate::array::{Array, WORK};
-use crate::parts::{Block, Parts, Row, split_work};
+use crate::array::Array;
+use crate::parts::{Block, Parts, Row, check_work, split_work};
 use crate::places::{put_block, put_cell};
 use crate::row::{add_pending, check_repairable, load_row, row_column};
 use crate::started::Started;
@@ -29,9 +29,7 @@ impl<B: Backplane, C: Code> Array<B, C> {
         ensures does { Follows B.Backplane C.Code (Rebuild slot (length work.old)) self.old (reply_of of_number result) self.new }
         ensures area { work.new ≡ wiped work.old }
     {
-        if work.len() < WORK {
-            return Err(ArrayFault::ShortWork);
-        }
+        check_work(work)?;
         let area = WorkArea(work);
         self.rebuild_in(slot, area.0)
     }
@@ -89,9 +87,9 @@ impl<B: Backplane, C: Code> Array<B, C> {
         ensures { Made ((to_block slot stripe block.now ∷ (to_cell 0 (header_bytes (shape_for B.Backplane C.Code self.old) header) ∷ [])) ∷ []) Same (stripe + 1) (Some header) (view_of B.Backplane C.Code self.old) result (view_of B.Backplane C.Code self.new) self.new.header }
     {
         let cell = header.cell(shape);
-        self.header = None;
-        store_counted(&mut self.backplane, slot, stripe, block, &cell)?;
-        self.header = Some(header);
+        self.hold_after(header, |plane| {
+            store_counted(plane, slot, stripe, block, &cell)
+        })?;
         Ok(stripe + 1)
     }
 }

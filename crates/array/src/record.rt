@@ -12,20 +12,34 @@ use crate::started::Started;
 use backplane::Backplane;
 use faults::fault::ArrayFault;
 
+// The record of a write, and cell 0 with its count.
+#[derive(Clone, Copy)]
+pub(crate) struct Record<'a> {
+    pub(crate) head: &'a Block,
+    pub(crate) delta: &'a Block,
+    // the block as it is to be, 512 bytes
+    pub(crate) image: &'a [u8],
+    pub(crate) cell: &'a Block,
+}
+
 // The cells of a write record, after the cells in use: head, delta and image.
 fn store_delta<B: Backplane>(
     plane: &mut B,
     started: &Started,
-    head: &Block,
-    delta: &Block,
-    image: &[u8],
+    written: Record<'_>,
 ) -> Result<(), ArrayFault>
     requires fits { Fits (B.Backplane.view plane.old) started.now }
     requires free { started.now.header.used + 3 < (B.Backplane.view plane.old).cells }
-    requires size { length image.now ≡ 512 }
-    ensures { Performed (to_cell (started.now.header.used + 1) head.now ∷ (to_cell (started.now.header.used + 2) delta.now ∷ (to_cell (started.now.header.used + 3) image.now ∷ []))) (B.Backplane.view plane.old) result (B.Backplane.view plane.new) }
+    requires size { length written.image.now ≡ 512 }
+    ensures { Performed (to_cell (started.now.header.used + 1) written.entry.head.now ∷ (to_cell (started.now.header.used + 2) written.entry.delta.now ∷ (to_cell (started.now.header.used + 3) written.entry.image.now ∷ []))) (B.Backplane.view plane.old) result (B.Backplane.view plane.new) }
 {
     let used = started.header.used;
+    let Record {
+        head,
+        delta,
+        image,
+        ..
+    } = written;
     put_cell(plane, used + 1, head)?;
     put_cell(plane, used + 2, delta)?;
     put_cell(plane, used + 3, image)?;
@@ -38,18 +52,16 @@ pub(crate) fn store_write<B: Backplane>(
     started: &Started,
     stripe: u32,
     column: u8,
-    head: &Block,
-    delta: &Block,
-    image: &[u8],
-    cell: &Block,
+    written: Record<'_>,
 ) -> Result<(), ArrayFault>
     requires fits { Fits (B.Backplane.view plane.old) started.now }
     requires free { started.now.header.used + 3 < (B.Backplane.view plane.old).cells }
     requires stripe { stripe < (B.Backplane.view plane.old).blocks }
-    requires size { length image.now ≡ 512 }
-    ensures { PerformedIn (write_stores started.now.shape.slots (B.Backplane.view plane.old).live started.now.header stripe column head.now delta.now image.now cell.now) (B.Backplane.view plane.old) result (B.Backplane.view plane.new) }
+    requires size { length written.image.now ≡ 512 }
+    ensures { PerformedIn (write_stores started.now.shape.slots (B.Backplane.view plane.old).live started.now.header stripe column written.entry.head.now written.entry.delta.now written.entry.image.now written.entry.cell.now) (B.Backplane.view plane.old) result (B.Backplane.view plane.new) }
 {
-    store_delta(plane, started, head, delta, image)?;
+    let Record { image, cell, .. } = written;
+    store_delta(plane, started, written)?;
     put_cell(plane, 0, cell)?;
     store_good(plane, started, stripe, column, image)
 }

@@ -66,7 +66,7 @@ pub(crate) fn good_slot<B: Backplane>(
     ensures live { IfSome result (λ d. (d < (B.Backplane.view plane.now).slots) × ((B.Backplane.view plane.now).live d ≡ true)) }
 {
     let (slot, _) = place(started.shape.slots, stripe, column);
-    if plane.live(slot) & (stripe < started.stripe(stripe).good_stripes(slot)) {
+    if plane.live(slot) && stripe < started.stripe(stripe).good_stripes(slot) {
         Some(slot)
     } else {
         None

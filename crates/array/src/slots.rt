@@ -6,7 +6,8 @@ ghost use Rattle.backplane.specs.Meaning.{Fitting};
 ghost use Rattle.array.specs.Calls.{view_of, coding_of, shape_for, acked, reply_of, wiped, Made, Follows};
 ghost use Rattle.array.specs.Ready.{Ready};
 
-use crate::array::{Array, WORK};
+use crate::array::Array;
+use crate::parts::check_work;
 use backplane::Backplane;
 use backplane::fault::BackplaneFault;
 use codes::Code;
@@ -39,9 +40,7 @@ impl<B: Backplane, C: Code> Array<B, C> {
         ensures does { Follows B.Backplane C.Code (Fit slot (length work.old)) self.old (reply_of acked result) self.new }
         ensures area { work.new ≡ wiped work.old }
     {
-        if work.len() < WORK {
-            return Err(ArrayFault::ShortWork);
-        }
+        check_work(work)?;
         let area = WorkArea(work);
         self.fit_in(slot, area.0)
     }

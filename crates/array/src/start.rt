@@ -8,9 +8,9 @@ ghost use Rattle.array.specs.Calls.{view_of, coding_of, acked, reply_of, wiped, 
 ghost use Rattle.array.specs.Ready.{Sized, Opens};
 ghost use Rattle.array.specs.Starts.{start_on};
 
-use crate::array::{Array, WORK};
+use crate::array::Array;
 use crate::finish::finish_last;
-use crate::parts::{Block, Parts, Row, split_work};
+use crate::parts::{Block, Parts, Row, check_work, split_work};
 use crate::places::get_cell;
 use crate::records::{is_overfull, last_head};
 use crate::started::Started;
@@ -27,9 +27,7 @@ impl<B: Backplane, C: Code> Array<B, C> {
         ensures does { Follows B.Backplane C.Code (Start (length work.old)) self.old (reply_of acked result) self.new }
         ensures area { work.new ≡ wiped work.old }
     {
-        if work.len() < WORK {
-            return Err(ArrayFault::ShortWork);
-        }
+        check_work(work)?;
         let area = WorkArea(work);
         self.start_in(area.0)
     }
@@ -108,8 +106,6 @@ fn read_header<B: Backplane, C: Code>(
     ensures kept { B.Backplane.view plane.new ≡ B.Backplane.view plane.old }
 {
     get_cell(plane, 0, cell);
-    match Header::decode(&shape, C::ROWS as u32, cell) {
-        Some(header) => Some(Started { header, shape }),
-        None => None,
-    }
+    let header = Header::decode(&shape, C::ROWS as u32, cell)?;
+    Some(Started { header, shape })
 }

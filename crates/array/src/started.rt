@@ -7,7 +7,7 @@ use parity_log::log::Log;
 use rows::stripe::Stripe;
 
 // The header held, and the shape that it fits.
-#[derive(Clone, Copy)]
+#[derive(Clone, Copy, Debug, PartialEq, Eq)]
 pub struct Started {
     pub header: Header,
     pub shape: Shape,

@@ -1,5 +1,6 @@
 // Whether the array is started, and the store of its header.
 ghost use Rattle.std.specs.Prelude.{◌≡◌, ◌-◌, ◌*◌, ◌<◌, ◌≤◌, true, false, [], ◌∷◌, length, is_some, IfSome, if◌then◌else◌, Some, None, MatchOption, OnSome, nat_lt};
+ghost use Rattle.std.specs.Fn.{FnOnceTakesAtMut, FnOnceReturnsAtMut};
 ghost use Rattle.model.specs.Rules.{to_header};
 ghost use Rattle.array.specs.Calls.{view_of, coding_of, shape_for, limited, opened_of, Performed, held_after};
 ghost use Rattle.array.specs.Ready.{Sized, Ready, Opens};
@@ -16,7 +17,8 @@ use layout::shape::Shape;
 impl<B: Backplane, C: Code> Array<B, C> {
     // An array that is not started.
     pub fn new(backplane: B, code: C) -> Array<B, C>
-        ensures { (result.backplane ≡ backplane) × (result.header ≡ None) }
+        ensures backplane { result.backplane ≡ backplane }
+        ensures not_started { result.header ≡ None }
     {
         Array {
             backplane,
@@ -39,13 +41,9 @@ impl<B: Backplane, C: Code> Array<B, C> {
         ensures value { MatchOption result (None ≡ opened_of B.Backplane C.Code self.now) (λ s. Some s.header ≡ opened_of B.Backplane C.Code self.now) }
         ensures started { IfSome result (λ s. Opens (coding_of B.Backplane C.Code self.now) (view_of B.Backplane C.Code self.now) s) }
     {
-        let Some(header) = self.header else {
-            return None;
-        };
-        let Some(shape) = self.shape() else {
-            return None;
-        };
-        if self.backplane.power() & header.fits(&shape) {
+        let header = self.header?;
+        let shape = self.shape()?;
+        if self.backplane.power() && header.fits(&shape) {
             Some(Started { header, shape })
         } else {
             None
@@ -69,7 +67,7 @@ impl<B: Backplane, C: Code> Array<B, C> {
         ensures { result ≡ nat_lt block ((view_of B.Backplane C.Code self.now).blocks * ((view_of B.Backplane C.Code self.now).slots - C.Code.ROWS)) }
     {
         let columns = self.backplane.slots().saturating_sub(C::ROWS as u32);
-        (block as u64) < self.backplane.blocks() as u64 * columns as u64
+        u64::from(block) < u64::from(self.backplane.blocks()) * u64::from(columns)
     }
 
     pub(crate) fn has_stripe(&self, stripe: u32) -> bool
@@ -86,9 +84,24 @@ impl<B: Backplane, C: Code> Array<B, C> {
         ensures held { self.new.header ≡ held_after header result }
     {
         let cell = header.cell(shape);
+        self.hold_after(header, |plane| Ok(put_cell(plane, 0, &cell)?))
+    }
+
+    // Makes stores. No header is held from the first to the last, so that a cut leaves the array not started; then this one is.
+    pub(crate) fn hold_after<F: FnOnce(&mut B) -> Result<(), ArrayFault>>(
+        &mut self,
+        header: Header,
+        stores: F,
+    ) -> Result<(), ArrayFault>
+        requires { FnOnceTakesAtMut F.FnOnce stores self.old.backplane }
+        ensures stores { FnOnceReturnsAtMut F.FnOnce stores self.old.backplane result self.new.backplane }
+        ensures held { self.new.header ≡ held_after header result }
+    {
         self.header = None;
-        put_cell(&mut self.backplane, 0, &cell)?;
-        self.header = Some(header);
-        Ok(())
+        let done = stores(&mut self.backplane);
+        if done.is_ok() {
+            self.header = Some(header);
+        }
+        done
     }
 }

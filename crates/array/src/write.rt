@@ -12,7 +12,7 @@ ghost use Rattle.array.specs.Writes.{WriteJudged};
 
 use crate::array::{Array, WORK};
 use crate::parts::{BLOCK, Block, Parts, Row, split_work};
-use crate::record::store_write;
+use crate::record::{Record, store_write};
 use crate::records::{count_pending, lacks_room};
 use crate::row::{check_repairable, load_row, locate_block, row_column};
 use crate::started::Started;
@@ -29,6 +29,7 @@ impl<B: Backplane, C: Code> Array<B, C> {
         ensures does { Follows B.Backplane C.Code (Write block bytes.now (length work.old)) self.old (reply_of acked result) self.new }
         ensures area { work.new ≡ wiped work.old }
     {
+        // a block of another length is told before a short work area, and an area that is long enough is wiped all the same
         if work.len() < WORK {
             if bytes.len() != BLOCK {
                 return Err(ArrayFault::BlockLength);
@@ -89,7 +90,7 @@ impl<B: Backplane, C: Code> Array<B, C> {
         ensures { Ended B.Backplane C.Code (write_open (coding_of B.Backplane C.Code self.old) (view_of B.Backplane C.Code self.old) started.now.header stripe column bytes.now) self.old (reply_of acked result) self.new }
     {
         let Parts { row, cell, block } = parts;
-        judge_write::<B, C>(&mut self.backplane, started, stripe, row, cell)?;
+        check_write::<B, C>(&mut self.backplane, started, stripe, row, cell)?;
         find_delta::<B, C>(
             &mut self.backplane,
             started,
@@ -121,45 +122,39 @@ impl<B: Backplane, C: Code> Array<B, C> {
         let head = Head::OfWrite(stripe, column).cell();
         let counted = started.header.with_used(started.header.used + 3);
         let cell = counted.cell(&started.shape);
-        self.store_counted(started, counted, stripe, column, &head, delta, bytes, &cell)
+        let written = Record {
+            head: &head,
+            delta,
+            image: bytes,
+            cell: &cell,
+        };
+        self.store_counted(started, counted, stripe, column, written)
     }
 
-    // No header is held from the first store to the last, so that a cut leaves the array not started.
+    // No header is held from the first store to the last, so that a cut leaves the array not started. Not by `hold_after`: the proof does not close over stores in phases.
     fn store_counted(
         &mut self,
         started: &Started,
         header: Header,
         stripe: u32,
         column: u8,
-        head: &Block,
-        delta: &Block,
-        image: &[u8],
-        cell: &Block,
+        written: Record<'_>,
     ) -> Result<(), ArrayFault>
         requires fits { Fits (view_of B.Backplane C.Code self.old) started.now }
         requires free { started.now.header.used + 3 < (view_of B.Backplane C.Code self.old).cells }
         requires stripe { stripe < (view_of B.Backplane C.Code self.old).blocks }
-        requires size { length image.now ≡ 512 }
-        ensures { Made (write_stores started.now.shape.slots (view_of B.Backplane C.Code self.old).live started.now.header stripe column head.now delta.now image.now cell.now) Same tt (Some header) (view_of B.Backplane C.Code self.old) result (view_of B.Backplane C.Code self.new) self.new.header }
+        requires size { length written.image.now ≡ 512 }
+        ensures { Made (write_stores started.now.shape.slots (view_of B.Backplane C.Code self.old).live started.now.header stripe column written.entry.head.now written.entry.delta.now written.entry.image.now written.entry.cell.now) Same tt (Some header) (view_of B.Backplane C.Code self.old) result (view_of B.Backplane C.Code self.new) self.new.header }
     {
         self.header = None;
-        store_write(
-            &mut self.backplane,
-            started,
-            stripe,
-            column,
-            head,
-            delta,
-            image,
-            cell,
-        )?;
+        store_write(&mut self.backplane, started, stripe, column, written)?;
         self.header = Some(header);
         Ok(())
     }
 }
 
 // Refuses a stripe that is past repair, and a log that has no room for the record and for the parity records that it then owes.
-fn judge_write<B: Backplane, C: Code>(
+fn check_write<B: Backplane, C: Code>(
     plane: &mut B,
     started: &Started,
     stripe: u32,

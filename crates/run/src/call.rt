@@ -23,7 +23,7 @@ pub enum Call<'a> {
     Fold(u32),
 }
 
-#[derive(Clone, Copy)]
+#[derive(Clone, Copy, Debug, PartialEq, Eq)]
 pub enum Answer {
     Done,
     Block([u8; 512]),
@@ -32,7 +32,7 @@ pub enum Answer {
 }
 
 // Why a run was not made whole.
-#[derive(Clone, Copy)]
+#[derive(Clone, Copy, Debug, PartialEq, Eq)]
 pub enum RunFault {
     // the array could not be formatted, and no call was made
     Format(ArrayFault),
