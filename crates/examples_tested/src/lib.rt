@@ -22,7 +22,11 @@ mod tests {
     }
 
     // An array of 4 disks with 8 blocks each is formatted, and then written to: what each of these calls answers. A write has a block number and a length.
-    fn answers(heap: Global, cells: u32, writes: &[(u32, usize)]) -> Result<Vec<Outcome>, AllocError> {
+    fn answers(
+        heap: Global,
+        cells: u32,
+        writes: &[(u32, usize)],
+    ) -> Result<Vec<Outcome>, AllocError> {
         let mut bytes = vec![in heap; 0u8; 512 * (32 + cells as usize)]?;
         let mut work = [0u8; 10240];
         let sizes = Sizes {
