@@ -11,10 +11,9 @@ use Rattle.model.specs.Runs.{Device, Event, Given, is_new}
 use Rattle.model.proofs.Whole.{ran-more}
 use Rattle.array.specs.declared.array.Array.{Array}
 use Rattle.array.specs.Calls.{view_of, coding_of, Follows}
-use Rattle.run.specs.Calls.{call_of, reply_for}
+use Rattle.run.specs.Calls.{Answer, call_of, reply_for}
 use Rattle.run.specs.Runs.{asked_in, replied_in, MadeAll, device_of}
 use Rattle.run.specs.declared.call.Call.{Call}
-use Rattle.run.specs.declared.call.Answer.{Answer}
 
 map_more : {A B : Type 0} (f : A → B) (xs : List A) (x : A) → map f (xs ++ x ∷ []) ≡ map f xs ++ f x ∷ []
 map_more f [] x = refl
