@@ -1,14 +1,13 @@
 // One recording through a week on an array: written, folded and cleared, two blocks replaced with the power cut inside a block store, a disk
 // pulled, a new one rebuilt, and the recording compared with what it should be, byte by byte.
 use crate::{DATA, STRIPE, checks, width};
-use anyhow::anyhow;
 use array::array::Array;
 use backplane::sizes::Sizes;
 use codes::Code;
 use faults::told::Told;
 use fuse::Fuse;
 use memory::Memory;
-use run::call::{Answer, Call, RunFault};
+use run::call::{Answer, Call, Outcome, RunFault};
 use run::run::run;
 use std::alloc::{AllocError, Global};
 use std::fmt;
@@ -51,14 +50,14 @@ struct Week {
 impl Week {
     fn note(&mut self, call: Call<'_>, answer: Answer, edited: &[u8]) {
         match (call, answer) {
-            (_, Answer::Refused(fault)) if fault.number() == CUT => {
+            (_, Err(fault)) if fault.number() == CUT => {
                 self.cut = Some(fault.details());
             }
-            (_, Answer::Refused(_)) => self.refused = self.refused.saturating_add(1),
-            (Call::Write(_, _), Answer::Done) => self.written = self.written.saturating_add(1),
-            (Call::Rebuild(_), Answer::Number(n)) => self.rebuilt = n,
-            (_, Answer::Number(n)) => self.folded = self.folded.saturating_add(u64::from(n)),
-            (Call::Read(number), Answer::Block(block)) if is_block(edited, number, &block) => {
+            (_, Err(_)) => self.refused = self.refused.saturating_add(1),
+            (Call::Write(_, _), Ok(Outcome::Done)) => self.written = self.written.saturating_add(1),
+            (Call::Rebuild(_), Ok(Outcome::Number(n))) => self.rebuilt = n,
+            (_, Ok(Outcome::Number(n))) => self.folded = self.folded.saturating_add(u64::from(n)),
+            (Call::Read(number), Ok(Outcome::Block(block))) if is_block(edited, number, &block) => {
                 self.read = self.read.saturating_add(1);
             }
             _ => {}
@@ -262,7 +261,7 @@ fn treat_tape<C: Code>(
             println!(rt; "  the array could not be formatted: refused by {number}")?;
             Ok(())
         }
-        Err(RunFault::NoMemory(_)) => Err(anyhow!("no memory for the answers")),
+        Err(fault) => Err(fault.into()),
     }
 }
 

@@ -14,7 +14,7 @@ use Rattle.array.specs.declared.array.Array.{Array}
 use Rattle.array.specs.Calls.{view_of, coding_of, Ended}
 use Rattle.run.specs.Runs.{MadeAll, MadeSome, device_of, RunKept, FrontKept}
 use Rattle.run.specs.declared.call.Call.{Call}
-use Rattle.run.specs.declared.call.Answer.{Answer}
+use Rattle.run.specs.Calls.{Answer}
 use Rattle.run.proofs.Sizes.{ends-slots}
 use Rattle.run.proofs.Making.{coding_for}
 

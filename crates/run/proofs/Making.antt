@@ -1,6 +1,6 @@
 -- Calls made one after the other: one call more at the end.
 use Rattle.std.proofs.Common.{◌≡◌, ℕ, ◌+◌, ◌-◌, ◌<◌, List, [], ◌∷◌, ◌++◌, map, length, get_or, take, sym, refl, ap, ◌∙◌, subst}
-use Rattle.std.proofs.lemmas.List.{take_more}
+use Rattle.std.proofs.lemmas.List.{map-append, take_more}
 use Rattle.backplane.specs.Plane.{Sector}
 use Rattle.backplane.specs.declared.Backplane.{Ghosts as PlaneGhosts}
 use Rattle.codes.specs.declared.code.Code.{Ghosts as CodeGhosts}
@@ -11,14 +11,9 @@ use Rattle.model.specs.Runs.{Device, Event, Given, is_new}
 use Rattle.model.proofs.Whole.{ran-more}
 use Rattle.array.specs.declared.array.Array.{Array}
 use Rattle.array.specs.Calls.{view_of, coding_of, Follows}
-use Rattle.run.specs.Calls.{call_of, reply_for}
+use Rattle.run.specs.Calls.{Answer, call_of, reply_for}
 use Rattle.run.specs.Runs.{asked_in, replied_in, MadeAll, device_of}
 use Rattle.run.specs.declared.call.Call.{Call}
-use Rattle.run.specs.declared.call.Answer.{Answer}
-
-map_more : {A B : Type 0} (f : A → B) (xs : List A) (x : A) → map f (xs ++ x ∷ []) ≡ map f xs ++ f x ∷ []
-map_more f [] x = refl
-map_more f (y ∷ xs) x = ap (λ z. f y ∷ z) (map_more f xs x)
 
 pub made_none : (K : Coding (List ℕ)) (w : ℕ) (u : Device (List ℕ)) (cs : List Call) (xs : List Answer) → xs ≡ [] → MadeAll K w u (take 0 cs) xs u
 made_none K w u cs xs e = record { events = []; asked = refl; replied = ap (map reply_for) (sym e); ran = refl }
@@ -31,8 +26,8 @@ made_more K w u v z cs xs c x m given ends =
     let e : Event (List ℕ) = record { call = call_of w c; reply = reply_for x; new = is_new K Sector v z } in
     record {
       events = m.events ++ e ∷ [];
-      asked = map_more asked_in m.events e ∙ (ap (λ (l : List _). l ++ call_of w c ∷ []) m.asked ∙ sym (map_more (call_of w) cs c));
-      replied = map_more replied_in m.events e ∙ (ap (λ (l : List _). l ++ reply_for x ∷ []) m.replied ∙ sym (map_more reply_for xs x));
+      asked = map-append asked_in m.events (e ∷ []) ∙ (ap (λ (l : List _). l ++ call_of w c ∷ []) m.asked ∙ sym (map-append (call_of w) cs (c ∷ [])));
+      replied = map-append replied_in m.events (e ∷ []) ∙ (ap (λ (l : List _). l ++ reply_for x ∷ []) m.replied ∙ sym (map-append reply_for xs (x ∷ [])));
       ran = ran-more K Sector m.events u v z e m.ran (record { given = given; ends = ends; told = refl });
     }
 

@@ -1,6 +1,6 @@
 -- A wiped work area stays as it is.
 use Rattle.std.proofs.Common.{◌≡◌, ℕ, Bool, true, false, cond, List, length, replicate, sym, refl, ap, ◌∙◌}
-use lib.ListN.{length-replicate}
+use Rattle.std.proofs.lemmas.List.{length-replicate}
 use Rattle.model.specs.Rules.{short_work}
 use Rattle.array.specs.Calls.{wiped}
 use Rattle.run.specs.Calls.{area_after}

@@ -11,9 +11,8 @@ use Rattle.model.specs.Runs.{Device, Event, Ran}
 use Rattle.model.specs.Promise.{Formatted, Kept}
 use Rattle.array.specs.declared.array.Array.{Array}
 use Rattle.array.specs.Calls.{view_of, coding_of, Ended}
-use Rattle.run.specs.Calls.{call_of, reply_for}
+use Rattle.run.specs.Calls.{Answer, call_of, reply_for}
 use Rattle.run.specs.declared.call.Call.{Call}
-use Rattle.run.specs.declared.call.Answer.{Answer}
 use Rattle.run.specs.declared.call.RunFault.{RunFault}
 use Rattle.run.specs.declared.call.RunFault.TheVariants.{Format, NoMemory}
 

@@ -1,9 +1,12 @@
 // The calls of a run, and what they are answered.
 ghost use Rattle.std.specs.Prelude.{◌≡◌};
+ghost use Rattle.run.specs.declared.call.Outcome.TheVariants.{Done, Block, Number};
 ghost use Rattle.run.specs.declared.call.RunFault.TheVariants.{Format, NoMemory};
 
 use faults::fault::ArrayFault;
 use std::alloc::AllocError;
+use std::error::Error;
+use std::fmt;
 
 #[derive(Clone, Copy, Debug, PartialEq, Eq)]
 pub enum Call<'a> {
@@ -23,12 +26,39 @@ pub enum Call<'a> {
     Fold(u32),
 }
 
+// What a call gives that is not refused.
 #[derive(Clone, Copy, Debug, PartialEq, Eq)]
-pub enum Answer {
+pub enum Outcome {
     Done,
     Block([u8; 512]),
     Number(u32),
-    Refused(ArrayFault),
+}
+
+// What a call is answered.
+pub type Answer = Result<Outcome, ArrayFault>;
+
+impl From<()> for Outcome {
+    ghost from_gives = { λ _ r. r ≡ Done };
+
+    fn from(_: ()) -> Outcome {
+        Outcome::Done
+    }
+}
+
+impl From<[u8; 512]> for Outcome {
+    ghost from_gives = { λ b r. r ≡ Block b };
+
+    fn from(b: [u8; 512]) -> Outcome {
+        Outcome::Block(b)
+    }
+}
+
+impl From<u32> for Outcome {
+    ghost from_gives = { λ n r. r ≡ Number n };
+
+    fn from(n: u32) -> Outcome {
+        Outcome::Number(n)
+    }
 }
 
 // Why a run was not made whole.
@@ -55,3 +85,14 @@ impl From<AllocError> for RunFault {
         RunFault::NoMemory(e)
     }
 }
+
+impl fmt::Display for RunFault {
+    fn fmt<W: fmt::Write>(&self, f: &mut fmt::Formatter<W>) -> fmt::Result {
+        match *self {
+            RunFault::Format(fault) => write!(f, "the array could not be formatted: {fault}"),
+            RunFault::NoMemory(_) => write!(f, "no memory for the answers"),
+        }
+    }
+}
+
+impl Error for RunFault {}

@@ -4,16 +4,14 @@ ghost use Rattle.backplane.specs.Meaning.{Sound};
 ghost use Rattle.backplane.specs.Plane.{Sector};
 ghost use Rattle.model.specs.Rules.{Read, Write};
 ghost use Rattle.model.specs.Runs.{Given};
-ghost use Rattle.model.specs.Verdict.{of_number};
-ghost use Rattle.array.specs.Calls.{acked, reply_of, wiped, coding_of, Follows};
+ghost use Rattle.array.specs.Calls.{wiped, coding_of, Follows};
 ghost use Rattle.run.specs.Calls.{call_of, reply_for, area_after};
 ghost use Rattle.run.specs.Runs.{device_of, MadeAll, MadeSome, RunKept, RunFailed};
 
-use crate::call::{Answer, Call, RunFault};
+use crate::call::{Answer, Call, Outcome, RunFault};
 use array::array::Array;
 use backplane::Backplane;
 use codes::Code;
-use faults::fault::ArrayFault;
 use std::alloc::{AllocError, AllocFailed, Global};
 
 // Formats the array, makes the calls one after the other, and gives back every answer, with every block read.
@@ -51,7 +49,7 @@ fn make_all<B: Backplane, C: Code>(
 {
     let mut answers = Vec::new(heap);
     for call in calls {
-        make_next(array, *call, work, &mut answers)?;
+        let _ = make_next(array, *call, work, &mut answers)?;
     }
     Ok(answers)
 }
@@ -80,13 +78,13 @@ fn make_one<B: Backplane, C: Code>(array: &mut Array<B, C>, call: Call, work: &m
 {
     match call {
         Call::Read(number) => read_block(array, number, work),
-        Call::Clear => Answer::from(array.clear(work)),
-        Call::Pull(slot) => Answer::from(array.pull(slot)),
-        Call::Fit(slot) => Answer::from(array.fit(slot, work)),
-        Call::Rebuild(slot) => Answer::from(array.rebuild(slot, work)),
-        Call::Start => Answer::from(array.start(work)),
+        Call::Clear => array.clear(work).map(Outcome::from),
+        Call::Pull(slot) => array.pull(slot).map(Outcome::from),
+        Call::Fit(slot) => array.fit(slot, work).map(Outcome::from),
+        Call::Rebuild(slot) => array.rebuild(slot, work).map(Outcome::from),
+        Call::Start => array.start(work).map(Outcome::from),
         Call::Write(number, bytes) => write_block(array, number, bytes, work),
-        Call::Fold(stripe) => Answer::from(array.fold(stripe, work)),
+        Call::Fold(stripe) => array.fold(stripe, work).map(Outcome::from),
     }
 }
 
@@ -101,7 +99,7 @@ fn write_block<B: Backplane, C: Code>(
     ensures given { (j : ℕ) → slice_index bytes.now j < 256 }
     ensures area { work.new ≡ wiped work.old }
 {
-    Answer::from(array.write(number, bytes, work))
+    array.write(number, bytes, work).map(Outcome::from)
 }
 
 // The block of this number, inside the answer.
@@ -114,32 +112,6 @@ fn read_block<B: Backplane, C: Code>(
     ensures area { work.new ≡ wiped work.old }
 {
     let mut block = [0u8; 512];
-    match array.read(number, &mut block, work) {
-        Ok(()) => Answer::Block(block),
-        Err(f) => Answer::Refused(f),
-    }
-}
-
-// The answer to a call that gives nothing but that it is done.
-impl From<Result<(), ArrayFault>> for Answer {
-    ghost from_gives = { λ r a. reply_for a ≡ reply_of acked r };
-
-    fn from(r: Result<(), ArrayFault>) -> Answer {
-        match r {
-            Ok(()) => Answer::Done,
-            Err(f) => Answer::Refused(f),
-        }
-    }
-}
-
-// The answer to a call that gives a number.
-impl From<Result<u32, ArrayFault>> for Answer {
-    ghost from_gives = { λ r a. reply_for a ≡ reply_of of_number r };
-
-    fn from(r: Result<u32, ArrayFault>) -> Answer {
-        match r {
-            Ok(n) => Answer::Number(n),
-            Err(f) => Answer::Refused(f),
-        }
-    }
+    array.read(number, &mut block, work)?;
+    Ok(Outcome::from(block))
 }
