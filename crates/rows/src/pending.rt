@@ -78,11 +78,12 @@ fn add_record<B: Backplane, C: Code>(
     ensures each { (c : ℕ) → c < log.columns + C.Code.ROWS → column_in row.new c ≡ grow_step (coding C.Code log.columns) (B.Backplane.view plane.old) (flagged leave.now) stripe c at head (column_in row.old c) }
     ensures kept { B.Backplane.view plane.new ≡ B.Backplane.view plane.old }
 {
-    if let Head::OfWrite(of, column) = head {
-        if stripe == of {
+    match head {
+        Head::OfWrite(of, column) if stripe == of => {
             plane.read(Place::OfCell(at + 1), cell)?;
             add_shares::<C>(log.columns, column, cell, leave, row);
         }
+        _ => {}
     }
     Ok(())
 }

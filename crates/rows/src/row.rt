@@ -42,16 +42,14 @@ pub fn row_of_stripe<B: Backplane, C: Code>(
     ensures refused { OnErr result (row.new ≡ row.old) }
     ensures kept { B.Backplane.view plane.new ≡ B.Backplane.view plane.old }
 {
-    let Some(shape) = row_shape::<B, C>(plane, header, stripe, row.len(), cell.len()) else {
+    let Ok(cell) = <&mut [u8; CELL]>::try_from(cell) else {
         return Err(RowError::NoRow);
     };
+    let shape = row_shape::<B, C>(plane, header, stripe, row.len()).ok_or(RowError::NoRow)?;
     let stripe = Stripe {
         header,
         columns: shape.slots,
         number: stripe,
-    };
-    let Ok(cell) = <&mut [u8; CELL]>::try_from(cell) else {
-        return Err(RowError::NoRow);
     };
     fill_row::<B, C>(plane, shape, stripe, row, cell)?;
     Ok(())
@@ -72,9 +70,7 @@ pub fn add_pending_to_column<B: Backplane, C: Code>(
     ensures refused { OnErr result (row.new ≡ row.old) }
     ensures kept { B.Backplane.view plane.new ≡ B.Backplane.view plane.old }
 {
-    let Some(shape) = open_shape::<B, C>(plane, header) else {
-        return Err(RowError::NoRow);
-    };
+    let shape = open_shape::<B, C>(plane, header).ok_or(RowError::NoRow)?;
     if row.len() < ROW {
         return Err(RowError::NoRow);
     }
@@ -94,23 +90,18 @@ fn open_shape<B: Backplane, C: Code>(plane: &B, header: &Header) -> Option<Shape
         return None;
     }
     let shape = Shape::of(C::NUMBER, C::ROWS as u32, plane.sizes())?;
-    if header.fits(&shape) {
-        Some(shape)
-    } else {
-        None
-    }
+    header.fits(&shape).then_some(shape)
 }
 
-// The same, if there is such a stripe, no more of its columns are lost than there are checks, and so many bytes hold its row and a cell.
+// The same, if there is such a stripe, no more of its columns are lost than there are checks, and so many bytes hold its row.
 fn row_shape<B: Backplane, C: Code>(
     plane: &B,
     header: &Header,
     stripe: u32,
     bytes: usize,
-    cell: usize,
 ) -> Option<Shape>
-    ensures value { is_some result ≡ has_row (coding_on C.Code (B.Backplane.view plane.now)) (B.Backplane.view plane.now) header.now stripe bytes cell }
-    ensures fits { IfSome result (λ sh. OpenFits C.Code.ROWS (B.Backplane.view plane.now) header.now sh × (stripe < (B.Backplane.view plane.now).blocks) × (missing sh.slots (B.Backplane.view plane.now).live (good_of header.now) stripe ≤ C.Code.ROWS) × (8192 ≤ bytes) × (cell ≡ 512)) }
+    ensures value { is_some result ≡ has_row (coding_on C.Code (B.Backplane.view plane.now)) (B.Backplane.view plane.now) header.now stripe bytes 512 }
+    ensures fits { IfSome result (λ sh. OpenFits C.Code.ROWS (B.Backplane.view plane.now) header.now sh × (stripe < (B.Backplane.view plane.now).blocks) × (missing sh.slots (B.Backplane.view plane.now).live (good_of header.now) stripe ≤ C.Code.ROWS) × (8192 ≤ bytes)) }
 {
     let shape = open_shape::<B, C>(plane, header)?;
     let row = Stripe {
@@ -118,17 +109,14 @@ fn row_shape<B: Backplane, C: Code>(
         columns: shape.slots,
         number: stripe,
     };
-    if (stripe < shape.blocks) & (has_room(bytes, cell) & is_repairable::<B, C>(plane, row)) {
-        Some(shape)
-    } else {
-        None
-    }
+    ((stripe < shape.blocks) & (has_room(bytes) & is_repairable::<B, C>(plane, row)))
+        .then_some(shape)
 }
 
-fn has_room(bytes: usize, cell: usize) -> bool
-    ensures { result ≡ has_room bytes cell }
+fn has_room(bytes: usize) -> bool
+    ensures { result ≡ has_room bytes 512 }
 {
-    (bytes >= ROW) & (cell == CELL)
+    bytes >= ROW
 }
 
 // Whether no more columns of a stripe are lost than there are checks.
@@ -163,7 +151,7 @@ fn fill_row<B: Backplane, C: Code>(
         used: stripe.header.used,
     };
     add_pending::<B, C>(plane, log, stripe.number, &lost, row, cell)?;
-    let _ = solve_row::<C>(shape.columns as usize, row, &lost[0..shape.slots as usize]);
+    solve_row::<C>(shape.columns as usize, row, &lost[0..shape.slots as usize]).unwrap();
     Ok(())
 }
 

@@ -1,17 +1,12 @@
-use Rattle.std.proofs.Common.{◌≡◌, ℕ, List, Ok, Option, Result, ap, ◌∙◌}
+use Rattle.std.proofs.Common.{ℕ, List, Option, ap, ◌∙◌}
 use Rattle.backplane.specs.Meaning.{Bytes}
-use Rattle.backplane.specs.declared.fault.BackplaneFault.{BackplaneFault}
 use Rattle.parity_log.specs.Codes.{coding}
-use Rattle.parity_log.specs.Walks.{last_parity, resume_at, rest}
-use Rattle.parity_log.proofs.Walking.{readable}
+use Rattle.parity_log.specs.Walks.{resume_at, rest}
 use Rattle.rows.specs.Columns.{column_in, flagged}
 use Rattle.rows.specs.Shares.{grow_step}
 use Rattle.rows.proofs.Placed.{length-column}
 use Rattle.rows.proofs.Grown.{grown-is}
 use Rattle.rows.proofs.pending.add_pending.Goals as goal
-
-there : (a b : Option ℕ) → ◌≡◌ {A = Result (Option ℕ) BackplaneFault} (Ok a) (Ok b) → a ≡ b
-there a b e = cc
 
 pub returns-clause-each : goal.returns-clause-each
 returns-clause-each g c =
@@ -22,9 +17,7 @@ returns-clause-each g c =
     let K = coding g.C.Code k in
     let row : List ℕ = c.args.row.now in
     let leave = c.args.leave.now in
-    let f = c.requires.fits in
-    let last = there c.in_ok-last.last (last_parity K p u s) (c.in_ok-last.ensures.value (readable u c.args.cell.now p f.power f.cells c.told-cell)) in
     λ j l. c.add_after.ensures.each j l
     ∙ ap (λ (q : Bytes). rest K (grow_step K q (flagged leave) s j) q u (resume_at K c.in_ok-last.last) (column_in row j)) c.in_ok-last.ensures.kept
-    ∙ ap (λ (o : Option ℕ). rest K (grow_step K p (flagged leave) s j) p u (resume_at K o) (column_in row j)) last
+    ∙ ap (λ (o : Option ℕ). rest K (grow_step K p (flagged leave) s j) p u (resume_at K o) (column_in row j)) c.in_ok-last.ensures.found
     ∙ grown-is g.C.Code k p u s (flagged leave) j (column_in row j) (length-column row j)
