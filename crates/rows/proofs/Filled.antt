@@ -129,16 +129,6 @@ module _ {C : Type 0} (code : CodeGhosts C) (k : ℕ) (p : Bytes) (h : Header) (
   pub fills-by : (n : ℕ) → n ≡ k + code.ROWS → Fills n
   fills-by n e = let P : ℕ → Type 0 = Fills in subst P (sym e) fills
 
--- a flag for each place but one
-pub but-one : (w j c : ℕ) → c < w → flagged (set (replicate w true) j false) c ≡ not (eqb c j)
-but-one w j c h = go (eqb c j) refl
-  where
-    go : (t : Bool) → eqb c j ≡ t → flagged (set (replicate w true) j false) c ≡ not t
-    go true e =
-        let same : c ≡ j = eqb-true c j e in
-        ap (λ (i : ℕ). flagged (set (replicate w true) j false) i) same ∙ get_or-set_same (replicate w true) j false false (simp length-replicate (omega arith))
-    go false e = get_or-set_other (replicate w true) j c false false (eqb-false c j e) ∙ get_or-replicate w c true false h
-
 pub cond-not : {A : Type 0} (t : Bool) (x y : A) → cond (not t) x y ≡ cond t y x
 cond-not true x y = refl
 cond-not false x y = refl

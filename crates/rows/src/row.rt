@@ -1,5 +1,5 @@
 // The row of a stripe, read and solved in lent bytes: column c stands at byte 512 * c.
-ghost use Rattle.std.specs.Prelude.{◌≡◌, ℕ, ◌+◌, ◌*◌, ◌<◌, ◌≤◌, true, false, length, replicate, not, is_some, IfSome, if◌then◌else◌, Ok, Err, OnOk, OnErr, nat_lt, slice_set};
+ghost use Rattle.std.specs.Prelude.{◌≡◌, ℕ, ◌+◌, ◌*◌, ◌<◌, ◌≤◌, true, false, length, not, is_some, IfSome, if◌then◌else◌, Ok, Err, OnOk, OnErr, nat_lt, ◌==◌};
 ghost use Rattle.layout.specs.Stripes.{slot_of};
 ghost use Rattle.model.specs.Coding.{zeros};
 ghost use Rattle.model.specs.Row.{missing};
@@ -8,7 +8,7 @@ ghost use Rattle.parity_log.specs.Codes.{coding, coding_on};
 ghost use Rattle.rows.specs.declared.fault.RowError.{RowError};
 ghost use Rattle.rows.specs.declared.fault.RowError.TheVariants.{NoRow};
 ghost use Rattle.rows.specs.Columns.{column_in, ColumnPut, flagged};
-ghost use Rattle.rows.specs.Rows.{OpenFits, open_shape, has_room, has_row, HoldsRow, has_debt, Settled};
+ghost use Rattle.rows.specs.Rows.{OpenFits, StripeFits, open_shape, has_room, has_row, HoldsRow, has_debt, Settled};
 
 use crate::fault::RowError;
 use crate::pending::add_pending;
@@ -145,7 +145,7 @@ fn fill_row<B: Backplane, C: Code>(
     ensures kept { B.Backplane.view plane.new ≡ B.Backplane.view plane.old }
 {
     let lost = stripe.lost_columns(plane);
-    read_columns(plane, shape.slots, stripe.number, &lost, row)?;
+    read_columns(plane, stripe, &lost, row)?;
     let log = Log {
         columns: shape.columns,
         used: stripe.header.used,
@@ -158,26 +158,22 @@ fn fill_row<B: Backplane, C: Code>(
 // Reads the good columns of a stripe into the row, and wipes the lost ones.
 fn read_columns<B: Backplane>(
     plane: &mut B,
-    n: u8,
-    stripe: u32,
+    stripe: Stripe,
     lost: &[bool; 16],
     row: &mut [u8],
 ) -> Result<(), BackplaneFault>
-    requires power { (B.Backplane.view plane.old).on ≡ true }
-    requires slots { (B.Backplane.view plane.old).slots ≡ n }
-    requires few { n ≤ 16 }
-    requires stripe { stripe < (B.Backplane.view plane.old).blocks }
-    requires live { (c : ℕ) → c < n → flagged lost.now c ≡ false → (B.Backplane.view plane.old).live (slot_of n stripe c) ≡ true }
-    requires room { 512 * n ≤ length row.old }
+    requires fits { StripeFits (B.Backplane.view plane.old) stripe.columns stripe.number }
+    requires live { (c : ℕ) → c < stripe.columns → flagged lost.now c ≡ false → (B.Backplane.view plane.old).live (slot_of stripe.columns stripe.number c) ≡ true }
+    requires room { 8192 ≤ length row.old }
     ensures done { result ≡ Ok tt }
-    ensures each { (c : ℕ) → c < n → column_in row.new c ≡ (if flagged lost.now c then zeros else (B.Backplane.view plane.old).block (slot_of n stripe c) stripe) }
+    ensures each { (c : ℕ) → c < stripe.entry.columns → column_in row.new c ≡ (if flagged lost.now c then zeros else (B.Backplane.view plane.old).block (slot_of stripe.entry.columns stripe.entry.number c) stripe.entry.number) }
     ensures kept { B.Backplane.view plane.new ≡ B.Backplane.view plane.old }
 {
-    for (c, is_lost) in lost[..n as usize].iter().enumerate() {
+    for (c, is_lost) in lost[..stripe.columns as usize].iter().enumerate() {
         if *is_lost {
             wipe_column(c, row);
         } else {
-            read_column(plane, n, stripe, c as u8, row)?;
+            read_column(plane, stripe, c as u8, row)?;
         }
     }
     Ok(())
@@ -194,22 +190,19 @@ fn wipe_column(column: usize, row: &mut [u8])
 // Reads the block of a good column into the row.
 fn read_column<B: Backplane>(
     plane: &mut B,
-    n: u8,
-    stripe: u32,
+    stripe: Stripe,
     column: u8,
     row: &mut [u8],
 ) -> Result<(), BackplaneFault>
-    requires power { (B.Backplane.view plane.old).on ≡ true }
-    requires slots { (B.Backplane.view plane.old).slots ≡ n }
-    requires stripe { stripe < (B.Backplane.view plane.old).blocks }
-    requires column { column < n }
-    requires live { (B.Backplane.view plane.old).live (slot_of n stripe column) ≡ true }
-    requires room { 512 * column + 512 ≤ length row.old }
+    requires fits { StripeFits (B.Backplane.view plane.old) stripe.columns stripe.number }
+    requires column { column < stripe.columns }
+    requires live { (B.Backplane.view plane.old).live (slot_of stripe.columns stripe.number column) ≡ true }
+    requires room { 8192 ≤ length row.old }
     ensures done { result ≡ Ok tt }
-    ensures column { ColumnPut column ((B.Backplane.view plane.old).block (slot_of n stripe column) stripe) row.old row.new }
+    ensures column { ColumnPut column ((B.Backplane.view plane.old).block (slot_of stripe.entry.columns stripe.entry.number column) stripe.entry.number) row.old row.new }
     ensures kept { B.Backplane.view plane.new ≡ B.Backplane.view plane.old }
 {
-    let (slot, block) = place(n, stripe, column);
+    let (slot, block) = place(stripe.columns, stripe.number, column);
     let at = 512 * column as usize;
     plane.read(Place::OfBlock(slot, block), &mut row[at..at + 512])?;
     Ok(())
@@ -241,11 +234,7 @@ fn add_pending_only<B: Backplane, C: Code>(
 
 // A flag for each of sixteen columns but this one.
 fn all_but(column: u8) -> [bool; 16]
-    ensures { result ≡ slice_set (replicate 16 true) column false }
+    ensures { (c : ℕ) → c < 16 → flagged result c ≡ not (c == column) }
 {
-    let mut flags = [true; 16];
-    if column < 16 {
-        flags[column as usize] = false;
-    }
-    flags
+    std::array::from_fn(|c| c != usize::from(column))
 }
