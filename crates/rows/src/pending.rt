@@ -17,75 +17,79 @@ use codes::Code;
 use layout::head::Head;
 use parity_log::log::Log;
 
-// Adds the shares of the pending deltas of a stripe to the check columns of the row that are not to be left alone.
-pub(crate) fn add_pending<B: Backplane, C: Code>(
-    plane: &mut B,
-    log: Log,
-    stripe: u32,
-    leave: &[bool; 16],
-    row: &mut [u8],
-    cell: &mut [u8; 512],
-) -> Result<(), BackplaneFault>
-    requires fits { LogFits (B.Backplane.view plane.old) log }
-    requires room { 512 * (log.columns + C.Code.ROWS) ≤ length row.old }
-    ensures done { result ≡ Ok tt }
-    ensures each { (c : ℕ) → c < log.columns + C.Code.ROWS → column_in row.new c ≡ (if flagged leave.now c then column_in row.old c else settled_with (coding C.Code log.columns) (walk (coding C.Code log.columns) (B.Backplane.view plane.old) log.used).log stripe c (column_in row.old c)) }
-    ensures kept { B.Backplane.view plane.new ≡ B.Backplane.view plane.old }
-{
-    let last = log.find_parity::<B, C>(plane, stripe, cell)?;
-    add_after::<B, C>(plane, log, stripe, last, leave, row, cell)
+// A stripe of a log, and a flag for each column that is left alone when the shares of the pending deltas are added to its row.
+#[derive(Clone, Copy)]
+pub(crate) struct Pending<'a> {
+    pub(crate) log: Log,
+    pub(crate) stripe: u32,
+    pub(crate) leave: &'a [bool; 16],
 }
 
-// The same where the cell of the stripe's last parity record is known, if it has one.
-fn add_after<B: Backplane, C: Code>(
-    plane: &mut B,
-    log: Log,
-    stripe: u32,
-    last: Option<u32>,
-    leave: &[bool; 16],
-    row: &mut [u8],
-    cell: &mut [u8; 512],
-) -> Result<(), BackplaneFault>
-    requires fits { LogFits (B.Backplane.view plane.old) log }
-    requires room { 512 * (log.columns + C.Code.ROWS) ≤ length row.old }
-    ensures done { result ≡ Ok tt }
-    ensures each { (c : ℕ) → c < log.columns + C.Code.ROWS → column_in row.new c ≡ rest (coding C.Code log.columns) (grow_step (coding C.Code log.columns) (B.Backplane.view plane.old) (flagged leave.now) stripe c) (B.Backplane.view plane.old) log.used (resume_at (coding C.Code log.columns) last) (column_in row.old c) }
-    ensures kept { B.Backplane.view plane.new ≡ B.Backplane.view plane.old }
-{
-    let mut records = log.records_after::<C>(last);
-    while let Some((at, head)) = records.next::<B, C>(plane, cell)? {
-        add_record::<B, C>(plane, log, at, head, stripe, leave, row, cell)?;
+impl Pending<'_> {
+    // Adds the shares of the pending deltas of the stripe to the check columns of the row that are not to be left alone.
+    pub(crate) fn add_to_row<B: Backplane, C: Code>(
+        self,
+        plane: &mut B,
+        row: &mut [u8],
+        cell: &mut [u8; 512],
+    ) -> Result<(), BackplaneFault>
+        requires fits { LogFits (B.Backplane.view plane.old) self.log }
+        requires room { 512 * (self.log.columns + C.Code.ROWS) ≤ length row.old }
+        ensures done { result ≡ Ok tt }
+        ensures each { (c : ℕ) → c < self.entry.log.columns + C.Code.ROWS → column_in row.new c ≡ (if flagged self.entry.leave.now c then column_in row.old c else settled_with (coding C.Code self.entry.log.columns) (walk (coding C.Code self.entry.log.columns) (B.Backplane.view plane.old) self.entry.log.used).log self.entry.stripe c (column_in row.old c)) }
+        ensures kept { B.Backplane.view plane.new ≡ B.Backplane.view plane.old }
+    {
+        let last = self.log.find_parity::<B, C>(plane, self.stripe, cell)?;
+        self.add_after::<B, C>(plane, last, row, cell)
     }
-    Ok(())
-}
 
-// Adds the shares of a record's delta, if it is a write record of the stripe. Its delta is read into the cell.
-fn add_record<B: Backplane, C: Code>(
-    plane: &mut B,
-    log: Log,
-    at: u32,
-    head: Head,
-    stripe: u32,
-    leave: &[bool; 16],
-    row: &mut [u8],
-    cell: &mut [u8; 512],
-) -> Result<(), BackplaneFault>
-    requires fits { LogFits (B.Backplane.view plane.old) log }
-    requires within { at + 1 ≤ log.used }
-    requires column { column_below log.columns head }
-    requires room { 512 * (log.columns + C.Code.ROWS) ≤ length row.old }
-    ensures done { result ≡ Ok tt }
-    ensures each { (c : ℕ) → c < log.columns + C.Code.ROWS → column_in row.new c ≡ grow_step (coding C.Code log.columns) (B.Backplane.view plane.old) (flagged leave.now) stripe c at head (column_in row.old c) }
-    ensures kept { B.Backplane.view plane.new ≡ B.Backplane.view plane.old }
-{
-    match head {
-        Head::OfWrite(of, column) if stripe == of => {
-            plane.read(Place::OfCell(at + 1), cell)?;
-            add_shares::<C>(log.columns, column, cell, leave, row);
+    // The same where the cell of the stripe's last parity record is known, if it has one.
+    fn add_after<B: Backplane, C: Code>(
+        self,
+        plane: &mut B,
+        last: Option<u32>,
+        row: &mut [u8],
+        cell: &mut [u8; 512],
+    ) -> Result<(), BackplaneFault>
+        requires fits { LogFits (B.Backplane.view plane.old) self.log }
+        requires room { 512 * (self.log.columns + C.Code.ROWS) ≤ length row.old }
+        ensures done { result ≡ Ok tt }
+        ensures each { (c : ℕ) → c < self.entry.log.columns + C.Code.ROWS → column_in row.new c ≡ rest (coding C.Code self.entry.log.columns) (grow_step (coding C.Code self.entry.log.columns) (B.Backplane.view plane.old) (flagged self.entry.leave.now) self.entry.stripe c) (B.Backplane.view plane.old) self.entry.log.used (resume_at (coding C.Code self.entry.log.columns) last) (column_in row.old c) }
+        ensures kept { B.Backplane.view plane.new ≡ B.Backplane.view plane.old }
+    {
+        let mut records = self.log.records_after::<C>(last);
+        while let Some((at, head)) = records.next::<B, C>(plane, cell)? {
+            self.add_record::<B, C>(plane, at, head, row, cell)?;
         }
-        _ => {}
+        Ok(())
     }
-    Ok(())
+
+    // Adds the shares of a record's delta, if it is a write record of the stripe. Its delta is read into the cell.
+    fn add_record<B: Backplane, C: Code>(
+        self,
+        plane: &mut B,
+        at: u32,
+        head: Head,
+        row: &mut [u8],
+        cell: &mut [u8; 512],
+    ) -> Result<(), BackplaneFault>
+        requires fits { LogFits (B.Backplane.view plane.old) self.log }
+        requires within { at + 1 ≤ self.log.used }
+        requires column { column_below self.log.columns head }
+        requires room { 512 * (self.log.columns + C.Code.ROWS) ≤ length row.old }
+        ensures done { result ≡ Ok tt }
+        ensures each { (c : ℕ) → c < self.entry.log.columns + C.Code.ROWS → column_in row.new c ≡ grow_step (coding C.Code self.entry.log.columns) (B.Backplane.view plane.old) (flagged self.entry.leave.now) self.entry.stripe c at head (column_in row.old c) }
+        ensures kept { B.Backplane.view plane.new ≡ B.Backplane.view plane.old }
+    {
+        match head {
+            Head::OfWrite(of, column) if self.stripe == of => {
+                plane.read(Place::OfCell(at + 1), cell)?;
+                add_shares::<C>(self.log.columns, column, cell, self.leave, row);
+            }
+            _ => {}
+        }
+        Ok(())
+    }
 }
 
 // Adds the shares of a delta to the check columns of the row that are not to be left alone.

@@ -11,7 +11,7 @@ ghost use Rattle.rows.specs.Columns.{column_in, ColumnPut, flagged};
 ghost use Rattle.rows.specs.Rows.{OpenFits, StripeFits, open_shape, has_room, has_row, HoldsRow, has_debt, Settled};
 
 use crate::fault::RowError;
-use crate::pending::add_pending;
+use crate::pending::Pending;
 use crate::solving::solve_row;
 use crate::stripe::Stripe;
 use backplane::Backplane;
@@ -146,11 +146,15 @@ fn fill_row<B: Backplane, C: Code>(
 {
     let lost = stripe.lost_columns(plane);
     read_columns(plane, stripe, &lost, row)?;
-    let log = Log {
-        columns: shape.columns,
-        used: stripe.header.used,
+    let pending = Pending {
+        log: Log {
+            columns: shape.columns,
+            used: stripe.header.used,
+        },
+        stripe: stripe.number,
+        leave: &lost,
     };
-    add_pending::<B, C>(plane, log, stripe.number, &lost, row, cell)?;
+    pending.add_to_row::<B, C>(plane, row, cell)?;
     solve_row::<C>(shape.columns as usize, row, &lost[0..shape.slots as usize]).unwrap();
     Ok(())
 }
@@ -224,12 +228,16 @@ fn add_pending_only<B: Backplane, C: Code>(
     ensures each { Settled (coding C.Code shape.columns) (B.Backplane.view plane.old) header.now stripe column row.old row.new }
     ensures kept { B.Backplane.view plane.new ≡ B.Backplane.view plane.old }
 {
-    let log = Log {
-        columns: shape.columns,
-        used: header.used,
-    };
     let leave = all_but(column);
-    add_pending::<B, C>(plane, log, stripe, &leave, row, cell)
+    let pending = Pending {
+        log: Log {
+            columns: shape.columns,
+            used: header.used,
+        },
+        stripe,
+        leave: &leave,
+    };
+    pending.add_to_row::<B, C>(plane, row, cell)
 }
 
 // A flag for each of sixteen columns but this one.

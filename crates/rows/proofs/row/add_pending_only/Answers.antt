@@ -16,6 +16,6 @@ returns-clause-each g c =
     let summed : ℕ → List ℕ = λ j. settled_with K (walk K p c.args.header.now.used).log s j (column_in row j) in
     λ j l.
     let low : j < 16 = omega (arith, c.requires.fits.high, g.met.C.Code.few.1, l) in
-    c.add_pending.ensures.each j l
+    c.add_to_row.ensures.each j l
     ∙ ap (λ (t : Bool). cond t (column_in row j) (summed j)) (c.all_but-leave.ensures j low)
     ∙ cond-not (eqb j c.args.column) (column_in row j) (summed j)
