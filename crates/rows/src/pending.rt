@@ -84,7 +84,12 @@ impl Pending<'_> {
         match head {
             Head::OfWrite(of, column) if self.stripe == of => {
                 plane.read(Place::OfCell(at + 1), cell)?;
-                add_shares::<C>(self.log.columns, column, cell, self.leave, row);
+                let delta = Delta {
+                    columns: self.log.columns,
+                    column,
+                    bytes: cell,
+                };
+                delta.add_shares::<C>(self.leave, row);
             }
             _ => {}
         }
@@ -92,31 +97,40 @@ impl Pending<'_> {
     }
 }
 
-// Adds the shares of a delta to the check columns of the row that are not to be left alone.
-fn add_shares<C: Code>(k: u8, column: u8, delta: &[u8], leave: &[bool; 16], row: &mut [u8])
-    requires few { k ≤ 12 }
-    requires column { column < k }
-    requires delta { length delta.now ≡ 512 }
-    requires room { 512 * (k + C.Code.ROWS) ≤ length row.old }
-    ensures { (c : ℕ) → c < k + C.Code.ROWS → column_in row.new c ≡ shared_to (coding C.Code k) (flagged leave.now) column delta.now c (column_in row.old c) }
-{
-    let of_checks = &leave[k as usize..k as usize + C::ROWS];
-    for (r, is_left) in of_checks.iter().enumerate() {
-        if !*is_left {
-            add_to_column::<C>(k, r, column, delta, row);
-        }
-    }
+// A delta at a data column of a row with so many data columns.
+#[derive(Clone, Copy)]
+struct Delta<'a> {
+    columns: u8,
+    column: u8,
+    bytes: &'a [u8; 512],
 }
 
-// Adds the share of a delta in check row r to that check column of the row.
-fn add_to_column<C: Code>(k: u8, r: usize, column: u8, delta: &[u8], row: &mut [u8])
-    requires few { k ≤ 12 }
-    requires column { column < k }
-    requires check { r < C.Code.ROWS }
-    requires delta { length delta.now ≡ 512 }
-    requires room { 512 * (k + r) + 512 ≤ length row.old }
-    ensures { ColumnPut (k + r) (sum_of (column_in row.old (k + r)) (share (coding C.Code k) r column delta.now)) row.old row.new }
-{
-    let at = 512 * (k as usize + r);
-    add_share::<C>(r, column as usize, delta, &mut row[at..at + 512]);
+impl Delta<'_> {
+    // Adds the shares of the delta to the check columns of the row that are not to be left alone.
+    fn add_shares<C: Code>(self, leave: &[bool; 16], row: &mut [u8])
+        requires few { self.columns ≤ 12 }
+        requires column { self.column < self.columns }
+        requires room { 512 * (self.columns + C.Code.ROWS) ≤ length row.old }
+        ensures { (c : ℕ) → c < self.entry.columns + C.Code.ROWS → column_in row.new c ≡ shared_to (coding C.Code self.entry.columns) (flagged leave.now) self.entry.column self.entry.bytes.now c (column_in row.old c) }
+    {
+        let of_checks = &leave[self.columns as usize..self.columns as usize + C::ROWS];
+        for (r, is_left) in of_checks.iter().enumerate() {
+            if !*is_left {
+                self.add_share::<C>(r, row);
+            }
+        }
+    }
+
+    // Adds the share of the delta in check row r to that check column of the row.
+    fn add_share<C: Code>(self, r: usize, row: &mut [u8])
+        requires few { self.columns ≤ 12 }
+        requires column { self.column < self.columns }
+        requires check { r < C.Code.ROWS }
+        requires room { 512 * (self.columns + r) + 512 ≤ length row.old }
+        ensures { ColumnPut (self.entry.columns + r) (sum_of (column_in row.old (self.entry.columns + r)) (share (coding C.Code self.entry.columns) r self.entry.column self.entry.bytes.now)) row.old row.new }
+    {
+        let at = 512 * (self.columns as usize + r);
+        let bytes = self.bytes;
+        add_share::<C>(r, self.column as usize, bytes, &mut row[at..at + 512]);
+    }
 }
