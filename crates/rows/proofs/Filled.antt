@@ -1,4 +1,4 @@
--- A row that is read, settled and solved is the stripe's row.
+-- A row that is read, given the pending shares and solved is the stripe's row.
 use Rattle.std.proofs.Common.{◌≡◌, ℕ, zero, suc, ◌+◌, ◌*◌, ◌<◌, ◌≤◌, Bool, true, false, cond, not, ◌&&◌, eqb, ltb, leb, List, [], ◌∷◌, ◌++◌, map, length, get_or, take, drop, set, replicate, sym, refl, ap, ◌∙◌, subst, add-one, arith}
 use Rattle.std.specs.List.{range_with_len}
 use Rattle.std.proofs.lemmas.List.FromFn.{fill_by_all, length-map-range_with_len, get_or-map-range_with_len, take-map-range_with_len, map-range_with_len_more}
@@ -128,7 +128,3 @@ module _ {C : Type 0} (code : CodeGhosts C) (k : ℕ) (p : Bytes) (h : Header) (
 
   pub fills-by : (n : ℕ) → n ≡ k + code.ROWS → Fills n
   fills-by n e = let P : ℕ → Type 0 = Fills in subst P (sym e) fills
-
-pub cond-not : {A : Type 0} (t : Bool) (x y : A) → cond (not t) x y ≡ cond t y x
-cond-not true x y = refl
-cond-not false x y = refl
