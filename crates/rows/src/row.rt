@@ -109,8 +109,8 @@ fn row_shape<B: Backplane, C: Code>(
         columns: shape.slots,
         number: stripe,
     };
-    ((stripe < shape.blocks) & (has_room(bytes) & is_repairable::<B, C>(plane, row)))
-        .then_some(shape)
+    let is_there = (stripe < shape.blocks) & (has_room(bytes) & is_repairable::<B, C>(plane, row));
+    is_there.then_some(shape)
 }
 
 fn has_room(bytes: usize) -> bool

@@ -42,7 +42,7 @@ unwrap-requires g c =
     let few : n ≤ 16 = omega (arith, f.width, f.high, g.met.C.Code.few.1) in
     let ls : List Bool = take (n - 0) lost in
     let e : ls ≡ take n (lost_flags n p.live good s) =
-        ap (λ (m : ℕ). take m lost) (omega arith) ∙ ap (take n) (c.lost_columns-lost.ensures ∙ ap (λ (m : ℕ). lost_flags m p.live good s) c.requires.columns) in
+    ap (λ (m : ℕ). take m lost) (omega arith) ∙ ap (take n) (c.lost_columns-lost.ensures ∙ ap (λ (m : ℕ). lost_flags m p.live good s) c.requires.columns) in
     let b : List ℕ = c.add_to_row.new.row in
     let room : 512 * n ≤ length b = omega (arith, c.requires.room, few, c.add_to_row.auto.row, c.read_columns.auto.row) in
     solves _ c.solve_row.result c.solve_row.ensures.answer (row-solvable n p.live good s few g.C.Code.ROWS c.args.shape.columns (length b) ls e f.low f.high f.width c.requires.repairable room)

@@ -14,5 +14,5 @@ returns-clause-row g c =
     let h = c.args.header.now in
     let s = c.args.stripe in
     let fits = subst (λ (o : Option Shape). IfSome o (λ sh. OpenFits g.C.Code.ROWS p h sh × (s < p.blocks) × (missing sh.slots p.live (good_of h) s ≤ g.C.Code.ROWS) × (8192 ≤ length c.args.row.now)))
-        c.in_ok-shape.ensures.ok_part c.row_shape.ensures.fits in
+    c.in_ok-shape.ensures.ok_part c.row_shape.ensures.fits in
     subst (λ (k : ℕ). HoldsRow (coding g.C.Code k) p h s c.fill_row.new.row) fits.0.columns c.fill_row.ensures.row
