@@ -1,4 +1,4 @@
--- An array of any type that is filled by calls of a closure that changes nothing.
+-- An array of any type that is filled by calls of a closure that changes nothing. Layout's lemma is of natural numbers only.
 use Rattle.std.proofs.Common.{◌≡◌, ℕ, zero, suc, ◌+◌, ◌<◌, ◌≤◌, List, get_or, map, subst, sym, ap, ◌∙◌, inl, inr, arith}
 use Rattle.std.specs.Fn.{Called}
 use Rattle.std.specs.List.{range_with_len}

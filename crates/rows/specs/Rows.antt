@@ -27,6 +27,13 @@ pub record OpenFits (rows : ℕ) (p : Bytes) (h : Header) (sh : Shape) : Type 0 
   pub cells : h.used < p.cells
   pub used : h.used < 4096
 
+-- what is known of stripe s of an open array with n columns
+pub record StripeFits (p : Bytes) (n s : ℕ) : Type 0 where
+  pub power : p.on ≡ true
+  pub slots : p.slots ≡ n
+  pub few : n ≤ 16
+  pub within : s < p.blocks
+
 -- what is known of the log of an open array
 pub record LogFits (p : Bytes) (log : Log) : Type 0 where
   pub power : p.on ≡ true

@@ -10,6 +10,7 @@ use std::fmt;
 pub enum RowError {
     // there is no such row, or it cannot be solved, or the bytes given have no room
     NoRow,
+    // carried by `?` only: no public function of rows answers it
     AtPlace(BackplaneFault),
 }
 

@@ -1,5 +1,5 @@
 // The row of a stripe, read and solved in lent bytes: column c stands at byte 512 * c.
-ghost use Rattle.std.specs.Prelude.{◌≡◌, ℕ, ◌+◌, ◌*◌, ◌<◌, ◌≤◌, true, false, length, replicate, not, is_some, IfSome, if◌then◌else◌, Ok, Err, OnOk, OnErr, nat_lt, slice_set};
+ghost use Rattle.std.specs.Prelude.{◌≡◌, ℕ, ◌+◌, ◌*◌, ◌<◌, ◌≤◌, true, false, length, not, is_some, IfSome, if◌then◌else◌, Ok, Err, OnOk, OnErr, nat_lt, ◌==◌};
 ghost use Rattle.layout.specs.Stripes.{slot_of};
 ghost use Rattle.model.specs.Coding.{zeros};
 ghost use Rattle.model.specs.Row.{missing};
@@ -8,10 +8,10 @@ ghost use Rattle.parity_log.specs.Codes.{coding, coding_on};
 ghost use Rattle.rows.specs.declared.fault.RowError.{RowError};
 ghost use Rattle.rows.specs.declared.fault.RowError.TheVariants.{NoRow};
 ghost use Rattle.rows.specs.Columns.{column_in, ColumnPut, flagged};
-ghost use Rattle.rows.specs.Rows.{OpenFits, open_shape, has_room, has_row, HoldsRow, has_debt, Settled};
+ghost use Rattle.rows.specs.Rows.{OpenFits, StripeFits, open_shape, has_room, has_row, HoldsRow, has_debt, Settled};
 
 use crate::fault::RowError;
-use crate::pending::add_pending;
+use crate::pending::Pending;
 use crate::solving::solve_row;
 use crate::stripe::Stripe;
 use backplane::Backplane;
@@ -42,16 +42,14 @@ pub fn row_of_stripe<B: Backplane, C: Code>(
     ensures refused { OnErr result (row.new ≡ row.old) }
     ensures kept { B.Backplane.view plane.new ≡ B.Backplane.view plane.old }
 {
-    let Some(shape) = row_shape::<B, C>(plane, header, stripe, row.len(), cell.len()) else {
+    let Ok(cell) = <&mut [u8; CELL]>::try_from(cell) else {
         return Err(RowError::NoRow);
     };
+    let shape = row_shape::<B, C>(plane, header, stripe, row.len()).ok_or(RowError::NoRow)?;
     let stripe = Stripe {
         header,
         columns: shape.slots,
         number: stripe,
-    };
-    let Ok(cell) = <&mut [u8; CELL]>::try_from(cell) else {
-        return Err(RowError::NoRow);
     };
     fill_row::<B, C>(plane, shape, stripe, row, cell)?;
     Ok(())
@@ -72,9 +70,7 @@ pub fn add_pending_to_column<B: Backplane, C: Code>(
     ensures refused { OnErr result (row.new ≡ row.old) }
     ensures kept { B.Backplane.view plane.new ≡ B.Backplane.view plane.old }
 {
-    let Some(shape) = open_shape::<B, C>(plane, header) else {
-        return Err(RowError::NoRow);
-    };
+    let shape = open_shape::<B, C>(plane, header).ok_or(RowError::NoRow)?;
     if row.len() < ROW {
         return Err(RowError::NoRow);
     }
@@ -94,23 +90,18 @@ fn open_shape<B: Backplane, C: Code>(plane: &B, header: &Header) -> Option<Shape
         return None;
     }
     let shape = Shape::of(C::NUMBER, C::ROWS as u32, plane.sizes())?;
-    if header.fits(&shape) {
-        Some(shape)
-    } else {
-        None
-    }
+    header.fits(&shape).then_some(shape)
 }
 
-// The same, if there is such a stripe, no more of its columns are lost than there are checks, and so many bytes hold its row and a cell.
+// The same, if there is such a stripe, no more of its columns are lost than there are checks, and so many bytes hold its row.
 fn row_shape<B: Backplane, C: Code>(
     plane: &B,
     header: &Header,
     stripe: u32,
     bytes: usize,
-    cell: usize,
 ) -> Option<Shape>
-    ensures value { is_some result ≡ has_row (coding_on C.Code (B.Backplane.view plane.now)) (B.Backplane.view plane.now) header.now stripe bytes cell }
-    ensures fits { IfSome result (λ sh. OpenFits C.Code.ROWS (B.Backplane.view plane.now) header.now sh × (stripe < (B.Backplane.view plane.now).blocks) × (missing sh.slots (B.Backplane.view plane.now).live (good_of header.now) stripe ≤ C.Code.ROWS) × (8192 ≤ bytes) × (cell ≡ 512)) }
+    ensures value { is_some result ≡ has_row (coding_on C.Code (B.Backplane.view plane.now)) (B.Backplane.view plane.now) header.now stripe bytes 512 }
+    ensures fits { IfSome result (λ sh. OpenFits C.Code.ROWS (B.Backplane.view plane.now) header.now sh × (stripe < (B.Backplane.view plane.now).blocks) × (missing sh.slots (B.Backplane.view plane.now).live (good_of header.now) stripe ≤ C.Code.ROWS) × (8192 ≤ bytes)) }
 {
     let shape = open_shape::<B, C>(plane, header)?;
     let row = Stripe {
@@ -118,17 +109,14 @@ fn row_shape<B: Backplane, C: Code>(
         columns: shape.slots,
         number: stripe,
     };
-    if (stripe < shape.blocks) & (has_room(bytes, cell) & is_repairable::<B, C>(plane, row)) {
-        Some(shape)
-    } else {
-        None
-    }
+    let is_there = (stripe < shape.blocks) & (has_room(bytes) & is_repairable::<B, C>(plane, row));
+    is_there.then_some(shape)
 }
 
-fn has_room(bytes: usize, cell: usize) -> bool
-    ensures { result ≡ has_room bytes cell }
+fn has_room(bytes: usize) -> bool
+    ensures { result ≡ has_room bytes 512 }
 {
-    (bytes >= ROW) & (cell == CELL)
+    bytes >= ROW
 }
 
 // Whether no more columns of a stripe are lost than there are checks.
@@ -157,39 +145,39 @@ fn fill_row<B: Backplane, C: Code>(
     ensures kept { B.Backplane.view plane.new ≡ B.Backplane.view plane.old }
 {
     let lost = stripe.lost_columns(plane);
-    read_columns(plane, shape.slots, stripe.number, &lost, row)?;
-    let log = Log {
-        columns: shape.columns,
-        used: stripe.header.used,
+    read_columns(plane, stripe, &lost, row)?;
+    let pending = Pending {
+        log: Log {
+            columns: shape.columns,
+            used: stripe.header.used,
+        },
+        stripe: stripe.number,
+        leave: &lost,
     };
-    add_pending::<B, C>(plane, log, stripe.number, &lost, row, cell)?;
-    let _ = solve_row::<C>(shape.columns as usize, row, &lost[0..shape.slots as usize]);
+    pending.add_to_row::<B, C>(plane, row, cell)?;
+    solve_row::<C>(shape.columns as usize, row, &lost[0..shape.slots as usize]).unwrap();
     Ok(())
 }
 
 // Reads the good columns of a stripe into the row, and wipes the lost ones.
 fn read_columns<B: Backplane>(
     plane: &mut B,
-    n: u8,
-    stripe: u32,
+    stripe: Stripe,
     lost: &[bool; 16],
     row: &mut [u8],
 ) -> Result<(), BackplaneFault>
-    requires power { (B.Backplane.view plane.old).on ≡ true }
-    requires slots { (B.Backplane.view plane.old).slots ≡ n }
-    requires few { n ≤ 16 }
-    requires stripe { stripe < (B.Backplane.view plane.old).blocks }
-    requires live { (c : ℕ) → c < n → flagged lost.now c ≡ false → (B.Backplane.view plane.old).live (slot_of n stripe c) ≡ true }
-    requires room { 512 * n ≤ length row.old }
+    requires fits { StripeFits (B.Backplane.view plane.old) stripe.columns stripe.number }
+    requires live { (c : ℕ) → c < stripe.columns → flagged lost.now c ≡ false → (B.Backplane.view plane.old).live (slot_of stripe.columns stripe.number c) ≡ true }
+    requires room { 8192 ≤ length row.old }
     ensures done { result ≡ Ok tt }
-    ensures each { (c : ℕ) → c < n → column_in row.new c ≡ (if flagged lost.now c then zeros else (B.Backplane.view plane.old).block (slot_of n stripe c) stripe) }
+    ensures each { (c : ℕ) → c < stripe.entry.columns → column_in row.new c ≡ (if flagged lost.now c then zeros else (B.Backplane.view plane.old).block (slot_of stripe.entry.columns stripe.entry.number c) stripe.entry.number) }
     ensures kept { B.Backplane.view plane.new ≡ B.Backplane.view plane.old }
 {
-    for (c, is_lost) in lost[..n as usize].iter().enumerate() {
+    for (c, is_lost) in lost[..stripe.columns as usize].iter().enumerate() {
         if *is_lost {
             wipe_column(c, row);
         } else {
-            read_column(plane, n, stripe, c as u8, row)?;
+            read_column(plane, stripe, c as u8, row)?;
         }
     }
     Ok(())
@@ -206,22 +194,19 @@ fn wipe_column(column: usize, row: &mut [u8])
 // Reads the block of a good column into the row.
 fn read_column<B: Backplane>(
     plane: &mut B,
-    n: u8,
-    stripe: u32,
+    stripe: Stripe,
     column: u8,
     row: &mut [u8],
 ) -> Result<(), BackplaneFault>
-    requires power { (B.Backplane.view plane.old).on ≡ true }
-    requires slots { (B.Backplane.view plane.old).slots ≡ n }
-    requires stripe { stripe < (B.Backplane.view plane.old).blocks }
-    requires column { column < n }
-    requires live { (B.Backplane.view plane.old).live (slot_of n stripe column) ≡ true }
-    requires room { 512 * column + 512 ≤ length row.old }
+    requires fits { StripeFits (B.Backplane.view plane.old) stripe.columns stripe.number }
+    requires column { column < stripe.columns }
+    requires live { (B.Backplane.view plane.old).live (slot_of stripe.columns stripe.number column) ≡ true }
+    requires room { 8192 ≤ length row.old }
     ensures done { result ≡ Ok tt }
-    ensures column { ColumnPut column ((B.Backplane.view plane.old).block (slot_of n stripe column) stripe) row.old row.new }
+    ensures column { ColumnPut column ((B.Backplane.view plane.old).block (slot_of stripe.entry.columns stripe.entry.number column) stripe.entry.number) row.old row.new }
     ensures kept { B.Backplane.view plane.new ≡ B.Backplane.view plane.old }
 {
-    let (slot, block) = place(n, stripe, column);
+    let (slot, block) = place(stripe.columns, stripe.number, column);
     let at = 512 * column as usize;
     plane.read(Place::OfBlock(slot, block), &mut row[at..at + 512])?;
     Ok(())
@@ -243,21 +228,21 @@ fn add_pending_only<B: Backplane, C: Code>(
     ensures each { Settled (coding C.Code shape.columns) (B.Backplane.view plane.old) header.now stripe column row.old row.new }
     ensures kept { B.Backplane.view plane.new ≡ B.Backplane.view plane.old }
 {
-    let log = Log {
-        columns: shape.columns,
-        used: header.used,
-    };
     let leave = all_but(column);
-    add_pending::<B, C>(plane, log, stripe, &leave, row, cell)
+    let pending = Pending {
+        log: Log {
+            columns: shape.columns,
+            used: header.used,
+        },
+        stripe,
+        leave: &leave,
+    };
+    pending.add_to_row::<B, C>(plane, row, cell)
 }
 
 // A flag for each of sixteen columns but this one.
 fn all_but(column: u8) -> [bool; 16]
-    ensures { result ≡ slice_set (replicate 16 true) column false }
+    ensures { (c : ℕ) → c < 16 → flagged result c ≡ not (c == column) }
 {
-    let mut flags = [true; 16];
-    if column < 16 {
-        flags[column as usize] = false;
-    }
-    flags
+    std::array::from_fn(|c| c != usize::from(column))
 }

@@ -63,7 +63,7 @@ fn solve_place<C: Code>(k: usize, row: &mut [u8], lost: &[bool], i: usize)
     let mut bytes = [0u8; COLUMNS];
     let place = &mut bytes[0..n];
     gather(row, i, place);
-    let _ = C::solve(k, place, lost);
+    C::solve(k, place, lost).unwrap();
     scatter(row, i, place);
 }
 

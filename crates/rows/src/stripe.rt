@@ -9,7 +9,7 @@ use layout::header::Header;
 use layout::stripes::place;
 
 // A stripe of an array, with so many columns in its row, and what cell 0 says of them.
-#[derive(Clone, Copy)]
+#[derive(Clone, Copy, Debug, PartialEq, Eq)]
 pub struct Stripe<'a> {
     pub header: &'a Header,
     pub columns: u8,

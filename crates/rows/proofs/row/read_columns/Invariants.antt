@@ -6,5 +6,5 @@ use Rattle.rows.proofs.row.read_columns.Given as goal
 
 abbrev pub invariant-loop-c : goal.invariant-loop-c
 invariant-loop-c g l =
-    ((j : ℕ) → j < l.c → column_in l.row j ≡ cond (flagged l.lost j) zeros ((g.B.Backplane.view l.initial.plane).block (slot_of l.n l.stripe j) l.stripe))
+    ((j : ℕ) → j < l.c → column_in l.row j ≡ cond (flagged l.lost j) zeros ((g.B.Backplane.view l.initial.plane).block (slot_of l.stripe.columns l.stripe.number j) l.stripe.number))
     × (g.B.Backplane.view l.plane ≡ g.B.Backplane.view l.initial.plane)
