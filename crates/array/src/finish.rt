@@ -8,11 +8,12 @@ ghost use Rattle.array.specs.Ready.{Fits, Opens};
 ghost use Rattle.array.specs.Starts.{to_good, to_good_checks, finish_by, Placed};
 
 use crate::parts::Block;
-use crate::places::get_cell;
+use crate::places::get;
 use crate::records::{check_columns, last_record};
 use crate::row::store_good;
 use crate::started::Started;
 use backplane::Backplane;
+use backplane::fault::Place;
 use codes::Code;
 use faults::fault::ArrayFault;
 use layout::head::Head;
@@ -88,6 +89,6 @@ fn finish_column<B: Backplane>(
     requires cell { from < (B.Backplane.view plane.old).cells }
     ensures { Performed (to_good started.now.shape.slots (B.Backplane.view plane.old).live started.now.header stripe column ((B.Backplane.view plane.old).cell from)) (B.Backplane.view plane.old) result (B.Backplane.view plane.new) }
 {
-    get_cell(plane, from, cell);
+    get(plane, Place::OfCell(from), cell);
     store_good(plane, started, stripe, column, cell)
 }

@@ -10,10 +10,11 @@ ghost use Rattle.array.specs.Ready.{Opens};
 
 use crate::array::{Array, WORK};
 use crate::parts::{BLOCK, Block, Parts, Row, split_work};
-use crate::places::get_block;
+use crate::places::get;
 use crate::row::{check_repairable, good_slot, load_row, locate_block, row_column};
 use crate::started::Started;
 use backplane::Backplane;
+use backplane::fault::Place;
 use codes::Code;
 use faults::fault::{ArrayFault, StripeFault};
 use layout::blocks::WorkArea;
@@ -101,7 +102,7 @@ fn read_column<B: Backplane, C: Code>(
     ensures kept { B.Backplane.view plane.new ≡ B.Backplane.view plane.old }
 {
     if let Some(slot) = good_slot(plane, started, stripe, column) {
-        get_block(plane, slot, stripe, into);
+        get(plane, Place::OfBlock(slot, stripe), into);
         return Ok(());
     }
     check_repairable::<B, C>(plane, started, stripe)?;

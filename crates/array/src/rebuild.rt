@@ -11,11 +11,11 @@ ghost use Rattle.array.specs.Repairs.{NextStripe, repairs};
 
 use crate::array::Array;
 use crate::parts::{Block, Parts, Row, check_work, split_work};
-use crate::places::{put_block, put_cell};
+use crate::places::put;
 use crate::row::{add_pending, check_repairable, load_row, row_column};
 use crate::started::Started;
 use backplane::Backplane;
-use backplane::fault::BackplaneFault;
+use backplane::fault::{BackplaneFault, Place};
 use codes::Code;
 use faults::fault::ArrayFault;
 use layout::blocks::WorkArea;
@@ -153,7 +153,6 @@ fn store_counted<B: Backplane>(
     requires stripe { stripe < (B.Backplane.view plane.old).blocks }
     ensures { Performed (to_block slot stripe block.now ∷ (to_cell 0 cell.now ∷ [])) (B.Backplane.view plane.old) result (B.Backplane.view plane.new) }
 {
-    put_block(plane, slot, stripe, block)?;
-    put_cell(plane, 0, cell)?;
-    Ok(())
+    put(plane, Place::OfBlock(slot, stripe), block)?;
+    put(plane, Place::OfCell(0), cell)
 }

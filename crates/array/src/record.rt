@@ -6,10 +6,11 @@ ghost use Rattle.array.specs.Ready.{Fits};
 ghost use Rattle.array.specs.Records.{write_stores};
 
 use crate::parts::Block;
-use crate::places::put_cell;
+use crate::places::put;
 use crate::row::store_good;
 use crate::started::Started;
 use backplane::Backplane;
+use backplane::fault::Place;
 use faults::fault::ArrayFault;
 
 // The record of a write, and cell 0 with its count.
@@ -40,10 +41,9 @@ fn store_delta<B: Backplane>(
         image,
         ..
     } = written;
-    put_cell(plane, used + 1, head)?;
-    put_cell(plane, used + 2, delta)?;
-    put_cell(plane, used + 3, image)?;
-    Ok(())
+    put(plane, Place::OfCell(used + 1), head)?;
+    put(plane, Place::OfCell(used + 2), delta)?;
+    put(plane, Place::OfCell(used + 3), image)
 }
 
 // The record of a write to a column of a stripe; its block is stored where that column is good.
@@ -62,6 +62,6 @@ pub(crate) fn store_write<B: Backplane>(
 {
     let Record { image, cell, .. } = written;
     store_delta(plane, started, written)?;
-    put_cell(plane, 0, cell)?;
+    put(plane, Place::OfCell(0), cell)?;
     store_good(plane, started, stripe, column, image)
 }

@@ -9,9 +9,10 @@ ghost use Rattle.array.specs.Ready.{Opens};
 ghost use Rattle.array.specs.Starts.{Walks, ToFinish};
 
 use crate::parts::{Block, Row};
-use crate::places::get_cell;
+use crate::places::get;
 use crate::started::Started;
 use backplane::Backplane;
+use backplane::fault::Place;
 use codes::Code;
 use faults::fault::LogFault;
 use layout::head::{Head, decode_head};
@@ -91,7 +92,7 @@ pub(crate) fn last_record<B: Backplane, C: Code>(
     ensures kept { B.Backplane.view plane.new ≡ B.Backplane.view plane.old }
 {
     let at = last?;
-    get_cell(plane, at, cell);
+    get(plane, Place::OfCell(at), cell);
     let stripes = plane.blocks();
     let head = decode_head(started.shape.columns, stripes, cell)?;
     Some((at, head))

@@ -13,9 +13,10 @@ ghost use Rattle.array.specs.Repairs.{Repairable};
 ghost use Rattle.array.specs.Starts.{to_good};
 
 use crate::parts::{BLOCK, Block, Row};
-use crate::places::put_block;
+use crate::places::put;
 use crate::started::Started;
 use backplane::Backplane;
+use backplane::fault::Place;
 use codes::Code;
 use faults::fault::{ArrayFault, StripeFault};
 use layout::blocks::sum_into;
@@ -87,7 +88,7 @@ pub(crate) fn store_good<B: Backplane>(
     ensures { Performed (to_good started.now.shape.slots (B.Backplane.view plane.old).live started.now.header stripe column bytes.now) (B.Backplane.view plane.old) result (B.Backplane.view plane.new) }
 {
     match good_slot(plane, started, stripe, column) {
-        Some(slot) => Ok(put_block(plane, slot, stripe, bytes)?),
+        Some(slot) => put(plane, Place::OfBlock(slot, stripe), bytes),
         None => Ok(()),
     }
 }

@@ -11,10 +11,11 @@ ghost use Rattle.array.specs.Starts.{start_on};
 use crate::array::Array;
 use crate::finish::finish_last;
 use crate::parts::{Block, Parts, Row, check_work, split_work};
-use crate::places::get_cell;
+use crate::places::get;
 use crate::records::{is_overfull, last_head};
 use crate::started::Started;
 use backplane::Backplane;
+use backplane::fault::Place;
 use codes::Code;
 use faults::fault::{ArrayFault, LogFault};
 use layout::blocks::WorkArea;
@@ -105,7 +106,7 @@ fn read_header<B: Backplane, C: Code>(
     ensures started { IfSome result (λ s. Opens (coding_on C.Code (B.Backplane.view plane.old)) (B.Backplane.view plane.old) s) }
     ensures kept { B.Backplane.view plane.new ≡ B.Backplane.view plane.old }
 {
-    get_cell(plane, 0, cell);
+    get(plane, Place::OfCell(0), cell);
     let header = Header::decode(&shape, C::ROWS as u32, cell)?;
     Some(Started { header, shape })
 }
