@@ -135,7 +135,7 @@ fn find_block<B: Backplane, C: Code>(
     let column = column_on(started.shape.slots, stripe, slot);
     load_row::<B, C>(plane, started, stripe, row, cell);
     add_pending::<B, C>(plane, started, stripe, column, row, cell);
-    block.copy_from_slice(row_column(row, column));
+    *block = *row_column(row, column);
 }
 
 // The block comes first, so that it is never counted as good before it is there.

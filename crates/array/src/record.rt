@@ -1,5 +1,5 @@
 // Appending a write record to the log: its cells, head first, then cell 0 with the new count, then its block.
-ghost use Rattle.std.specs.Prelude.{◌≡◌, ◌+◌, ◌<◌, [], ◌∷◌, length};
+ghost use Rattle.std.specs.Prelude.{◌≡◌, ◌+◌, ◌<◌, [], ◌∷◌};
 ghost use Rattle.backplane.specs.Plane.{to_cell};
 ghost use Rattle.array.specs.Calls.{PerformedIn, Performed};
 ghost use Rattle.array.specs.Ready.{Fits};
@@ -18,8 +18,8 @@ use faults::fault::ArrayFault;
 pub(crate) struct Record<'a> {
     pub(crate) head: &'a Block,
     pub(crate) delta: &'a Block,
-    // the block as it is to be, 512 bytes
-    pub(crate) image: &'a [u8],
+    // the block as it is to be
+    pub(crate) image: &'a Block,
     pub(crate) cell: &'a Block,
 }
 
@@ -31,7 +31,6 @@ fn store_delta<B: Backplane>(
 ) -> Result<(), ArrayFault>
     requires fits { Fits (B.Backplane.view plane.old) started.now }
     requires free { started.now.header.used + 3 < (B.Backplane.view plane.old).cells }
-    requires size { length written.image.now ≡ 512 }
     ensures { Performed (to_cell (started.now.header.used + 1) written.entry.head.now ∷ (to_cell (started.now.header.used + 2) written.entry.delta.now ∷ (to_cell (started.now.header.used + 3) written.entry.image.now ∷ []))) (B.Backplane.view plane.old) result (B.Backplane.view plane.new) }
 {
     let used = started.header.used;
@@ -57,7 +56,6 @@ pub(crate) fn store_write<B: Backplane>(
     requires fits { Fits (B.Backplane.view plane.old) started.now }
     requires free { started.now.header.used + 3 < (B.Backplane.view plane.old).cells }
     requires stripe { stripe < (B.Backplane.view plane.old).blocks }
-    requires size { length written.image.now ≡ 512 }
     ensures { PerformedIn (write_stores started.now.shape.slots (B.Backplane.view plane.old).live started.now.header stripe column written.entry.head.now written.entry.delta.now written.entry.image.now written.entry.cell.now) (B.Backplane.view plane.old) result (B.Backplane.view plane.new) }
 {
     let Record { image, cell, .. } = written;

@@ -26,7 +26,7 @@ returns-in_err-store_good g c =
     let f : ℕ → List ℕ = λ j. column_in c.args.row.now (k + j) in
     let b = err_from_is_err_and c.from_residual.result c.from_residual.ensures.1 in
     let q = v c.store_good.new.plane in
-    let one = subst (λ (x : List ℕ). Performed (to_good n (v c.loop-r.plane).live c.args.started.now.header c.args.stripe (k + c.loop-r.r) x) (v c.loop-r.plane) (Err c.in_err-store_good.field-0.0) q) c.row_column.ensures.value c.in_err-store_good.ensures in
+    let one = subst (λ (x : List ℕ). Performed (to_good n (v c.loop-r.plane).live c.args.started.now.header c.args.stripe (k + c.loop-r.r) x) (v c.loop-r.plane) (Err c.in_err-store_good.field-0.0) q) c.row_column.ensures c.in_err-store_good.ensures in
     subst⁻¹ (λ (x : Result (Unit {0}) ArrayFault). Performed (to_good_checks n k p.live c.args.started.now.header c.args.stripe f (n - k) 0) p x q) (b.1 ∙ ap Err b.2)
     (c.loop-r.invariant.1 q (Err c.in_err-store_good.field-0.0)
     (good-cut n k c.args.started.now.header c.args.stripe f p (v c.loop-r.plane) q (n - k) c.loop-r.r c.in_err-store_good.field-0.0 (omega arith) c.loop-r.invariant.0 one))
@@ -38,7 +38,7 @@ loop-r-preserved g c =
     let n = c.args.started.now.shape.slots in
     let k = c.args.started.now.shape.columns in
     let f : ℕ → List ℕ = λ j. column_in c.args.row.now (k + j) in
-    let one = subst (λ (x : List ℕ). Performed (to_good n (v c.loop-r.plane).live c.args.started.now.header c.args.stripe (k + c.loop-r.r) x) (v c.loop-r.plane) (Ok tt) (v c.store_good.new.plane)) c.row_column.ensures.value c.in_ok-store_good.ensures in
+    let one = subst (λ (x : List ℕ). Performed (to_good n (v c.loop-r.plane).live c.args.started.now.header c.args.stripe (k + c.loop-r.r) x) (v c.loop-r.plane) (Ok tt) (v c.store_good.new.plane)) c.row_column.ensures c.in_ok-store_good.ensures in
     let step = good-done n k c.args.started.now.header c.args.stripe f p (v c.loop-r.plane) (v c.store_good.new.plane) (n - k) c.loop-r.r (omega arith) c.loop-r.invariant.0 one in
     (step.0, λ q x h. c.loop-r.invariant.1 q x (step.1 q x h))
 

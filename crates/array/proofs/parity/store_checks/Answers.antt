@@ -24,7 +24,7 @@ returns-in_err-put g c =
     let q = v c.put.new.plane in
     let f = c.in_err-put.field-0.0 in
     let told = c.in_err-put.ensures in
-    let cut = subst (λ (x : List ℕ). CutBy Sector (to_cell (at + r) x) p q) c.row_column.ensures.value told.1 in
+    let cut = subst (λ (x : List ℕ). CutBy Sector (to_cell (at + r) x) p q) c.row_column.ensures told.1 in
     let b = err_from_is_err_and c.from_residual.result c.from_residual.ensures.1 in
     let e : m - r ≡ suc left = omega arith in
     record {
@@ -47,7 +47,7 @@ loop-r-preserved g c =
     let p = v c.loop-r.plane in
     let then = v c.put.new.plane in
     let e : m - r ≡ suc left = omega arith in
-    let one = c.in_ok-put.ensures ∙ ap (λ (x : List ℕ). stored (to_cell (at + r) x) p) c.row_column.ensures.value in (
+    let one = c.in_ok-put.ensures ∙ ap (λ (x : List ℕ). stored (to_cell (at + r) x) p) c.row_column.ensures in (
       kept-after (v c.args.plane.now) p then c.loop-r.invariant.0 (stored-kept (to_cell (at + r) (column_in row (k + r)) ∷ []) p then one),
       λ q x h. c.loop-r.invariant.1 q x
           (subst⁻¹ (λ (i : ℕ). Performed (row_cells k row at i r) p x q) e
