@@ -9,7 +9,7 @@ ghost use Rattle.array.specs.Starts.{to_good, to_good_checks, finish_by, Placed}
 
 use crate::parts::Block;
 use crate::places::get;
-use crate::records::{check_columns, last_record};
+use crate::records::last_record;
 use crate::row::store_good;
 use crate::started::Started;
 use backplane::Backplane;
@@ -69,7 +69,7 @@ fn finish_parity<B: Backplane, C: Code>(
     ensures { Performed (to_good_checks started.now.shape.slots started.now.shape.columns (B.Backplane.view plane.old).live started.now.header stripe (λ r. (B.Backplane.view plane.old).cell (at + (1 + r))) C.Code.ROWS 0) (B.Backplane.view plane.old) result (B.Backplane.view plane.new) }
 {
     let k = started.shape.columns;
-    for row in 0..check_columns::<C>() {
+    for row in 0..started.checks() {
         finish_column(plane, started, stripe, k + row, at + (1 + row as u32), cell)?;
     }
     Ok(())

@@ -84,10 +84,9 @@ impl<B: Backplane, C: Code> Array<B, C> {
         ensures { Made (appending (coding_of B.Backplane C.Code self.old) (view_of B.Backplane C.Code self.old) started.now.header (folded (coding_of B.Backplane C.Code self.old) (view_of B.Backplane C.Code self.old) started.now.header stripe)) Same records (Some (grown (coding_of B.Backplane C.Code self.old) (view_of B.Backplane C.Code self.old) started.now.header (folded (coding_of B.Backplane C.Code self.old) (view_of B.Backplane C.Code self.old) started.now.header stripe))) (view_of B.Backplane C.Code self.old) result (view_of B.Backplane C.Code self.new) self.new.header }
     {
         let head = Head::OfParity(stripe).cell();
-        let rows = started.shape.slots - started.shape.columns;
         let counted = started
             .header
-            .with_used(started.header.used + (1 + rows as u32));
+            .with_used(started.header.used + (1 + started.checks() as u32));
         let cell = counted.cell(&started.shape);
         self.store_folded(started, counted, stripe, records, &head, row, &cell)
     }

@@ -63,7 +63,7 @@ fn store_checks<B: Backplane>(
     ensures kept { OnOk result (Kept (B.Backplane.view plane.old) (B.Backplane.view plane.new)) }
 {
     let k = started.shape.columns;
-    for r in 0..started.shape.slots - k {
+    for r in 0..started.checks() {
         put(plane, Place::OfCell(at + r as u32), row_column(row, k + r))?;
     }
     Ok(())
@@ -81,7 +81,7 @@ fn finish_checks<B: Backplane>(
     ensures { Performed (to_good_checks started.now.shape.slots started.now.shape.columns (B.Backplane.view plane.old).live started.now.header stripe (λ r. column_in row.now (started.now.shape.columns + r)) (started.now.shape.slots - started.now.shape.columns) 0) (B.Backplane.view plane.old) result (B.Backplane.view plane.new) }
 {
     let k = started.shape.columns;
-    for r in 0..started.shape.slots - k {
+    for r in 0..started.checks() {
         store_good(plane, started, stripe, k + r, row_column(row, k + r))?;
     }
     Ok(())

@@ -88,7 +88,7 @@ impl<B: Backplane, C: Code> Array<B, C> {
     {
         let cell = header.cell(shape);
         self.hold_after(header, |plane| {
-            store_counted(plane, slot, stripe, block, &cell)
+            store_rebuilt(plane, slot, stripe, block, &cell)
         })?;
         Ok(stripe + 1)
     }
@@ -139,7 +139,7 @@ fn find_block<B: Backplane, C: Code>(
 }
 
 // The block comes first, so that it is never counted as good before it is there.
-fn store_counted<B: Backplane>(
+fn store_rebuilt<B: Backplane>(
     plane: &mut B,
     slot: u32,
     stripe: u32,

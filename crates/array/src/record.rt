@@ -13,6 +13,9 @@ use backplane::Backplane;
 use backplane::fault::Place;
 use faults::fault::ArrayFault;
 
+// The cells of a write record: head, delta and image.
+pub(crate) const RECORD: u32 = 3;
+
 // The record of a write, and cell 0 with its count.
 #[derive(Clone, Copy)]
 pub(crate) struct Record<'a> {

@@ -12,7 +12,7 @@ ghost use Rattle.array.specs.Writes.{WriteJudged};
 
 use crate::array::{Array, WORK};
 use crate::parts::{BLOCK, Block, Parts, Row, split_work};
-use crate::record::{Record, store_write};
+use crate::record::{RECORD, Record, store_write};
 use crate::records::{count_pending, lacks_room};
 use crate::row::{check_repairable, load_row, locate_block, row_column};
 use crate::started::Started;
@@ -117,7 +117,7 @@ impl<B: Backplane, C: Code> Array<B, C> {
         ensures { Made (appending (coding_of B.Backplane C.Code self.old) (view_of B.Backplane C.Code self.old) started.now.header (write stripe column delta.now bytes.now)) Same tt (Some (grown (coding_of B.Backplane C.Code self.old) (view_of B.Backplane C.Code self.old) started.now.header (write stripe column delta.now bytes.now))) (view_of B.Backplane C.Code self.old) result (view_of B.Backplane C.Code self.new) self.new.header }
     {
         let head = Head::OfWrite(stripe, column).cell();
-        let counted = started.header.with_used(started.header.used + 3);
+        let counted = started.header.with_used(started.header.used + RECORD);
         let cell = counted.cell(&started.shape);
         let written = Record {
             head: &head,
@@ -149,7 +149,7 @@ impl<B: Backplane, C: Code> Array<B, C> {
     }
 }
 
-// Refuses a stripe that is past repair, and a log that has no room for the record and for the parity records that it then owes.
+// Refuses a stripe that is past repair, and a log that has no room for the record and then for a parity record of each stripe with pending records.
 fn check_write<B: Backplane, C: Code>(
     plane: &mut B,
     started: &Started,
@@ -163,7 +163,7 @@ fn check_write<B: Backplane, C: Code>(
 {
     check_repairable::<B, C>(plane, started, stripe)?;
     let pending = count_pending::<B, C>(plane, started, Some(stripe), map, cell);
-    if lacks_room::<C>(started, 3, pending) {
+    if lacks_room::<C>(started, RECORD, pending) {
         let last = plane.cells() - 1;
         return Err(ArrayFault::OfLog(LogFault::Full(last - started.header.used)));
     }
