@@ -91,7 +91,7 @@ impl<B: Backplane, C: Code> Array<B, C> {
         self.store_folded(started, counted, stripe, records, &head, row, &cell)
     }
 
-    // No header is held from the first store to the last, so that a cut leaves the array not started. Not by `hold_after`: the proof does not close over stores in phases.
+    // No header is held from the first store to the last, so that a cut leaves the array not started. Not by `hold_after`: its closure would repeat the clauses of `store_parity`.
     fn store_folded(
         &mut self,
         started: &Started,

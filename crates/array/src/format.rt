@@ -49,7 +49,7 @@ fn fill_disk<B: Backplane>(
     Ok(())
 }
 
-// Stores the same bytes in every block, by slot and block.
+// Stores the same bytes in every block, by slot and block. The sizes are passed, since those of the backplane would have to be shown anew after each store.
 fn fill_disks<B: Backplane>(
     backplane: &mut B,
     slots: u32,
@@ -137,6 +137,7 @@ impl<B: Backplane, C: Code> Array<B, C> {
         self.format_by(shape, header, zero, &header.cell(shape))
     }
 
+    // The array holds the header once all is stored. Not by `hold_after`: its closure would repeat the clauses of `store_formatted`.
     fn format_by(
         &mut self,
         shape: &Shape,

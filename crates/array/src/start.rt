@@ -74,7 +74,7 @@ impl<B: Backplane, C: Code> Array<B, C> {
         self.finish_start(started, last, cell)
     }
 
-    // The array holds the header once the last record is finished.
+    // The array holds the header once the last record is finished. Not by `hold_after`: its closure would repeat the clauses of `finish_last`.
     fn finish_start(
         &mut self,
         started: &Started,
