@@ -1,11 +1,12 @@
 -- Stores performed one by one.
-use Rattle.std.proofs.Common.{◌≡◌, ℕ, List, [], ◌∷◌, ◌++◌, Ok, Err, Result, sym, ap, ◌∙◌, subst, inl, inr}
-use Rattle.backplane.specs.Plane.{Sector, Store}
+use Rattle.std.proofs.Common.{◌≡◌, ℕ, List, [], ◌∷◌, ◌++◌, Ok, Err, Result, sym, refl, ap, ◌∙◌, subst, inl, inr}
+use mathlib.Core.Path.{subst⁻¹}
+use Rattle.backplane.specs.Plane.{Sector, Store, to_block, to_cell}
 use Rattle.backplane.specs.Meaning.{Bytes}
-use Rattle.backplane.specs.Stores.{stored_all, Cutting}
+use Rattle.backplane.specs.Stores.{place_of, stored_all, CutBy, Cutting}
 use Rattle.backplane.proofs.Runs.{stored-append, stored-slots, stored-blocks, stored-cells, stored_on, stored-live, cut-append, cut-after}
 use Rattle.faults.specs.declared.fault.ArrayFault.{ArrayFault}
-use Rattle.array.specs.Calls.{Performed, PerformedIn, cut_place}
+use Rattle.array.specs.Calls.{Performed, PerformedIn, cut_place, fault_at}
 use Rattle.array.specs.declared.started.Started.{Started}
 use Rattle.array.specs.Ready.{Fits, Kept}
 
@@ -17,6 +18,14 @@ performed-append ss ts p m q (Err f) e h = (h.0, cut-after Sector ss ts p q (cut
 -- cut in the first stores
 pub performed-cut : (ss ts : List (Store (List ℕ))) (p q : Bytes) (f : ArrayFault) → Performed ss p (Err f) q → Performed (ss ++ ts) p (Err f) q
 performed-cut ss ts p q f h = (h.0, cut-append Sector ss ts p q (cut_place f) h.1)
+
+-- one store was cut
+pub store-cut : (s : Store (List ℕ)) (p q : Bytes) (f : ArrayFault) → f ≡ fault_at (place_of s) → CutBy Sector s p q → Performed (s ∷ []) p (Err f) q
+store-cut s p q f e h = subst⁻¹ (λ (x : ArrayFault). Performed (s ∷ []) p (Err x) q) e (go s h)
+  where
+    go : (t : Store (List ℕ)) → CutBy Sector t p q → Performed (t ∷ []) p (Err (fault_at (place_of t))) q
+    go (to_block d b x) cut = (refl, inl (refl, cut))
+    go (to_cell i x) cut = (refl, inl (refl, cut))
 
 -- stores leave the sizes, the power and the lives
 pub stored-kept : (ss : List (Store (List ℕ))) (p q : Bytes) → q ≡ stored_all ss p → Kept p q

@@ -5,7 +5,7 @@ use Rattle.backplane.specs.Plane.{Sector, Store, to_block}
 use Rattle.backplane.specs.Meaning.{Bytes}
 use Rattle.backplane.specs.Stores.{stored_all, Cutting}
 use Rattle.backplane.specs.declared.fault.Place.{Place}
-use Rattle.backplane.specs.declared.fault.Place.TheVariants.{OfCell}
+use Rattle.backplane.specs.declared.fault.Place.TheVariants.{OfBlock, OfCell}
 use Rattle.backplane.specs.declared.fault.BackplaneFault.{BackplaneFault}
 use Rattle.backplane.specs.declared.fault.BackplaneFault.TheVariants.{Off, NoPlace, Dead, Live, Cut}
 use Rattle.backplane.specs.declared.Backplane.{Ghosts as PlaneGhosts}
@@ -71,6 +71,11 @@ cut_place NotLaidOut = OfCell 0
 cut_place (OfBackplane f) = cut_in f
 cut_place (OfLog f) = cut_in_log f
 cut_place (OfStripe f) = cut_in_stripe f
+
+-- the fault that tells of a cut at a place
+abbrev pub fault_at : Place → ArrayFault
+fault_at (OfBlock d b) = OfStripe (AtBlock (Cut (OfBlock d b)))
+fault_at (OfCell c) = OfLog (AtCell (Cut (OfCell c)))
 
 -- the stores were done in order, or one was cut and none after it done
 abbrev pub Performed : List (Store (List ℕ)) → Bytes → Result (Unit {0}) ArrayFault → Bytes → Type 0

@@ -8,11 +8,12 @@ ghost use Rattle.array.specs.Ready.{Fits, Opens};
 ghost use Rattle.array.specs.Starts.{to_good, to_good_checks, finish_by, Placed};
 
 use crate::parts::Block;
-use crate::places::get_cell;
-use crate::records::{check_columns, last_record};
+use crate::places::get;
+use crate::records::last_record;
 use crate::row::store_good;
 use crate::started::Started;
 use backplane::Backplane;
+use backplane::fault::Place;
 use codes::Code;
 use faults::fault::ArrayFault;
 use layout::head::Head;
@@ -68,7 +69,7 @@ fn finish_parity<B: Backplane, C: Code>(
     ensures { Performed (to_good_checks started.now.shape.slots started.now.shape.columns (B.Backplane.view plane.old).live started.now.header stripe (λ r. (B.Backplane.view plane.old).cell (at + (1 + r))) C.Code.ROWS 0) (B.Backplane.view plane.old) result (B.Backplane.view plane.new) }
 {
     let k = started.shape.columns;
-    for row in 0..check_columns::<C>() {
+    for row in 0..started.checks() {
         finish_column(plane, started, stripe, k + row, at + (1 + row as u32), cell)?;
     }
     Ok(())
@@ -88,6 +89,6 @@ fn finish_column<B: Backplane>(
     requires cell { from < (B.Backplane.view plane.old).cells }
     ensures { Performed (to_good started.now.shape.slots (B.Backplane.view plane.old).live started.now.header stripe column ((B.Backplane.view plane.old).cell from)) (B.Backplane.view plane.old) result (B.Backplane.view plane.new) }
 {
-    get_cell(plane, from, cell);
+    get(plane, Place::OfCell(from), cell);
     store_good(plane, started, stripe, column, cell)
 }

@@ -84,15 +84,14 @@ impl<B: Backplane, C: Code> Array<B, C> {
         ensures { Made (appending (coding_of B.Backplane C.Code self.old) (view_of B.Backplane C.Code self.old) started.now.header (folded (coding_of B.Backplane C.Code self.old) (view_of B.Backplane C.Code self.old) started.now.header stripe)) Same records (Some (grown (coding_of B.Backplane C.Code self.old) (view_of B.Backplane C.Code self.old) started.now.header (folded (coding_of B.Backplane C.Code self.old) (view_of B.Backplane C.Code self.old) started.now.header stripe))) (view_of B.Backplane C.Code self.old) result (view_of B.Backplane C.Code self.new) self.new.header }
     {
         let head = Head::OfParity(stripe).cell();
-        let rows = started.shape.slots - started.shape.columns;
         let counted = started
             .header
-            .with_used(started.header.used + (1 + rows as u32));
+            .with_used(started.header.used + (1 + started.checks() as u32));
         let cell = counted.cell(&started.shape);
         self.store_folded(started, counted, stripe, records, &head, row, &cell)
     }
 
-    // No header is held from the first store to the last, so that a cut leaves the array not started. Not by `hold_after`: the proof does not close over stores in phases.
+    // No header is held from the first store to the last, so that a cut leaves the array not started. Not by `hold_after`: its closure would repeat the clauses of `store_parity`.
     fn store_folded(
         &mut self,
         started: &Started,

@@ -1,6 +1,6 @@
 // Formatting: zeros in all blocks, an empty log, and every stripe good.
 ghost use Rattle.std.specs.Prelude.{◌≡◌, ℕ, ◌<◌, true, not, [], ◌∷◌, length, ◌≤◌, Some, None, OnOk};
-ghost use Rattle.backplane.specs.Plane.{to_block, to_cell, switched};
+ghost use Rattle.backplane.specs.Plane.{to_cell, switched};
 ghost use Rattle.layout.specs.Counts.{count};
 ghost use Rattle.model.specs.Coding.{zeros};
 ghost use Rattle.model.specs.Rules.{formatting};
@@ -11,9 +11,9 @@ ghost use Rattle.array.specs.Ready.{Sized, Kept};
 
 use crate::array::Array;
 use crate::parts::{Block, Parts, check_work, split_work};
-use crate::places::{put_block, put_cell};
+use crate::places::put;
 use backplane::Backplane;
-use backplane::fault::BackplaneFault;
+use backplane::fault::{BackplaneFault, Place};
 use codes::Code;
 use faults::fault::ArrayFault;
 use layout::blocks::{WorkArea, wipe};
@@ -30,22 +30,6 @@ fn dead_slots<B: Backplane>(backplane: &B) -> usize
         .count()
 }
 
-fn fill_block<B: Backplane>(
-    backplane: &mut B,
-    slot: u32,
-    block: u32,
-    bytes: &Block,
-) -> Result<(), ArrayFault>
-    requires power { (B.Backplane.view backplane.old).on ≡ true }
-    requires block { block < (B.Backplane.view backplane.old).blocks }
-    requires slot { slot < (B.Backplane.view backplane.old).slots }
-    requires live { (B.Backplane.view backplane.old).live slot ≡ true }
-    ensures { Performed (to_block slot block bytes.now ∷ []) (B.Backplane.view backplane.old) result (B.Backplane.view backplane.new) }
-{
-    put_block(backplane, slot, block, bytes)?;
-    Ok(())
-}
-
 // Stores the same bytes in every block of a slot.
 fn fill_disk<B: Backplane>(
     backplane: &mut B,
@@ -60,12 +44,12 @@ fn fill_disk<B: Backplane>(
     ensures { Performed (fill_disk bytes.now slot blocks 0) (B.Backplane.view backplane.old) result (B.Backplane.view backplane.new) }
 {
     for b in 0..blocks {
-        fill_block(backplane, slot, b, bytes)?;
+        put(backplane, Place::OfBlock(slot, b), bytes)?;
     }
     Ok(())
 }
 
-// Stores the same bytes in every block, by slot and block.
+// Stores the same bytes in every block, by slot and block. The sizes are passed, since those of the backplane would have to be shown anew after each store.
 fn fill_disks<B: Backplane>(
     backplane: &mut B,
     slots: u32,
@@ -100,10 +84,9 @@ fn store_formatted<B: Backplane>(
     requires live { (d : ℕ) → d < slots → (B.Backplane.view backplane.old).live d ≡ true }
     ensures { PerformedIn ((to_cell 0 zero.now ∷ []) ∷ (fill_disks zero.now blocks slots 0 ∷ ((to_cell 0 cell.now ∷ []) ∷ []))) (B.Backplane.view backplane.old) result (B.Backplane.view backplane.new) }
 {
-    put_cell(backplane, 0, zero)?;
+    put(backplane, Place::OfCell(0), zero)?;
     fill_disks(backplane, slots, blocks, zero)?;
-    put_cell(backplane, 0, cell)?;
-    Ok(())
+    put(backplane, Place::OfCell(0), cell)
 }
 
 impl<B: Backplane, C: Code> Array<B, C> {
@@ -154,6 +137,7 @@ impl<B: Backplane, C: Code> Array<B, C> {
         self.format_by(shape, header, zero, &header.cell(shape))
     }
 
+    // The array holds the header once all is stored. Not by `hold_after`: its closure would repeat the clauses of `store_formatted`.
     fn format_by(
         &mut self,
         shape: &Shape,

@@ -1,17 +1,18 @@
 // A parity record in its phases: the cells of the record, cell 0 with the new count, and the check blocks on their disks.
-ghost use Rattle.std.specs.Prelude.{◌≡◌, ◌+◌, ◌-◌, ◌<◌, ◌≤◌, true, [], ◌∷◌, OnOk};
+ghost use Rattle.std.specs.Prelude.{◌≡◌, ◌+◌, ◌-◌, ◌<◌, ◌≤◌, ◌∷◌, OnOk};
 ghost use Rattle.backplane.specs.Plane.{to_cell};
 ghost use Rattle.rows.specs.Columns.{column_in};
 ghost use Rattle.array.specs.Calls.{PerformedIn, Performed};
 ghost use Rattle.array.specs.Parity.{row_cells, parity_stores};
 ghost use Rattle.array.specs.Ready.{Fits, Kept};
-ghost use Rattle.array.specs.Starts.{to_good, to_good_checks};
+ghost use Rattle.array.specs.Starts.{to_good_checks};
 
 use crate::parts::{Block, Row};
-use crate::places::put_cell;
+use crate::places::put;
 use crate::row::{row_column, store_good};
 use crate::started::Started;
 use backplane::Backplane;
+use backplane::fault::Place;
 use faults::fault::ArrayFault;
 
 // Stores the parity record of a stripe after the cells in use.
@@ -29,7 +30,7 @@ pub(crate) fn store_parity<B: Backplane>(
     ensures { PerformedIn (parity_stores started.now.shape.slots started.now.shape.columns (started.now.shape.slots - started.now.shape.columns) (B.Backplane.view plane.old).live started.now.header stripe head.now row.now cell.now) (B.Backplane.view plane.old) result (B.Backplane.view plane.new) }
 {
     store_record(plane, started, head, row)?;
-    put_cell(plane, 0, cell)?;
+    put(plane, Place::OfCell(0), cell)?;
     finish_checks(plane, started, stripe, row)
 }
 
@@ -45,9 +46,8 @@ fn store_record<B: Backplane>(
     ensures stores { Performed (to_cell (started.now.header.used + 1) head.now ∷ row_cells started.now.shape.columns row.now (started.now.header.used + 2) (started.now.shape.slots - started.now.shape.columns) 0) (B.Backplane.view plane.old) result (B.Backplane.view plane.new) }
     ensures kept { OnOk result (Kept (B.Backplane.view plane.old) (B.Backplane.view plane.new)) }
 {
-    put_cell(plane, started.header.used + 1, head)?;
-    store_checks(plane, started, started.header.used + 2, row)?;
-    Ok(())
+    put(plane, Place::OfCell(started.header.used + 1), head)?;
+    store_checks(plane, started, started.header.used + 2, row)
 }
 
 // The check blocks of a row, in the cells from a cell on.
@@ -63,25 +63,9 @@ fn store_checks<B: Backplane>(
     ensures kept { OnOk result (Kept (B.Backplane.view plane.old) (B.Backplane.view plane.new)) }
 {
     let k = started.shape.columns;
-    for r in 0..started.shape.slots - k {
-        store_check(plane, at + r as u32, k + r, row)?;
+    for r in 0..started.checks() {
+        put(plane, Place::OfCell(at + r as u32), row_column(row, k + r))?;
     }
-    Ok(())
-}
-
-// One column of the row, in a cell.
-fn store_check<B: Backplane>(
-    plane: &mut B,
-    at: u32,
-    column: u8,
-    row: &Row,
-) -> Result<(), ArrayFault>
-    requires power { (B.Backplane.view plane.old).on ≡ true }
-    requires cell { at < (B.Backplane.view plane.old).cells }
-    requires column { column < 16 }
-    ensures { Performed (to_cell at (column_in row.now column) ∷ []) (B.Backplane.view plane.old) result (B.Backplane.view plane.new) }
-{
-    put_cell(plane, at, row_column(row, column))?;
     Ok(())
 }
 
@@ -97,24 +81,8 @@ fn finish_checks<B: Backplane>(
     ensures { Performed (to_good_checks started.now.shape.slots started.now.shape.columns (B.Backplane.view plane.old).live started.now.header stripe (λ r. column_in row.now (started.now.shape.columns + r)) (started.now.shape.slots - started.now.shape.columns) 0) (B.Backplane.view plane.old) result (B.Backplane.view plane.new) }
 {
     let k = started.shape.columns;
-    for r in 0..started.shape.slots - k {
-        finish_check(plane, started, stripe, k + r, row)?;
+    for r in 0..started.checks() {
+        store_good(plane, started, stripe, k + r, row_column(row, k + r))?;
     }
     Ok(())
-}
-
-// One column of the row on its disk, where it is good.
-fn finish_check<B: Backplane>(
-    plane: &mut B,
-    started: &Started,
-    stripe: u32,
-    column: u8,
-    row: &Row,
-) -> Result<(), ArrayFault>
-    requires fits { Fits (B.Backplane.view plane.old) started.now }
-    requires stripe { stripe < (B.Backplane.view plane.old).blocks }
-    requires column { column < 16 }
-    ensures { Performed (to_good started.now.shape.slots (B.Backplane.view plane.old).live started.now.header stripe column (column_in row.now column)) (B.Backplane.view plane.old) result (B.Backplane.view plane.new) }
-{
-    store_good(plane, started, stripe, column, row_column(row, column))
 }

@@ -10,10 +10,11 @@ ghost use Rattle.array.specs.Ready.{Opens};
 
 use crate::array::{Array, WORK};
 use crate::parts::{BLOCK, Block, Parts, Row, split_work};
-use crate::places::get_block;
+use crate::places::get;
 use crate::row::{check_repairable, good_slot, load_row, locate_block, row_column};
 use crate::started::Started;
 use backplane::Backplane;
+use backplane::fault::Place;
 use codes::Code;
 use faults::fault::{ArrayFault, StripeFault};
 use layout::blocks::WorkArea;
@@ -41,9 +42,9 @@ impl<B: Backplane, C: Code> Array<B, C> {
         ensures does { Follows B.Backplane C.Code (Read block (length into.old) (length work.old)) self.old (reply_of (λ _. of_block into.new) result) self.new }
         ensures kept { OnErr result (into.new ≡ into.old) }
     {
-        if into.len() != BLOCK {
+        let Some(into) = into.as_mut_array::<BLOCK>() else {
             return Err(ArrayFault::BlockLength);
-        }
+        };
         if !self.has_block(block) {
             return Err(ArrayFault::OfStripe(StripeFault::NoBlock));
         }
@@ -58,12 +59,11 @@ impl<B: Backplane, C: Code> Array<B, C> {
         &mut self,
         started: &Started,
         block: u32,
-        into: &mut [u8],
+        into: &mut Block,
         work: &mut [u8],
     ) -> Result<(), ArrayFault>
         requires started { Opens (coding_of B.Backplane C.Code self.old) (view_of B.Backplane C.Code self.old) started.now }
         requires block { block < (view_of B.Backplane C.Code self.old).blocks * ((view_of B.Backplane C.Code self.old).slots - C.Code.ROWS) }
-        requires size { length into.old ≡ 512 }
         requires room { 10240 ≤ length work.old }
         ensures does { ColumnRead (coding_of B.Backplane C.Code self.old) (view_of B.Backplane C.Code self.old) started.now.header (stripe_of ((view_of B.Backplane C.Code self.old).slots - C.Code.ROWS) block) (column_of ((view_of B.Backplane C.Code self.old).slots - C.Code.ROWS) block) into.old result into.new }
         ensures plane { view_of B.Backplane C.Code self.new ≡ view_of B.Backplane C.Code self.old }
@@ -89,19 +89,18 @@ fn read_column<B: Backplane, C: Code>(
     started: &Started,
     stripe: u32,
     column: u8,
-    into: &mut [u8],
+    into: &mut Block,
     row: &mut Row,
     cell: &mut Block,
 ) -> Result<(), ArrayFault>
     requires started { Opens (coding_on C.Code (B.Backplane.view plane.old)) (B.Backplane.view plane.old) started.now }
     requires stripe { stripe < (B.Backplane.view plane.old).blocks }
     requires column { column < started.now.shape.slots }
-    requires size { length into.old ≡ 512 }
     ensures does { ColumnRead (coding_on C.Code (B.Backplane.view plane.old)) (B.Backplane.view plane.old) started.now.header stripe column into.old result into.new }
     ensures kept { B.Backplane.view plane.new ≡ B.Backplane.view plane.old }
 {
     if let Some(slot) = good_slot(plane, started, stripe, column) {
-        get_block(plane, slot, stripe, into);
+        get(plane, Place::OfBlock(slot, stripe), into);
         return Ok(());
     }
     check_repairable::<B, C>(plane, started, stripe)?;
@@ -114,7 +113,7 @@ fn read_lost<B: Backplane, C: Code>(
     started: &Started,
     stripe: u32,
     column: u8,
-    into: &mut [u8],
+    into: &mut Block,
     row: &mut Row,
     cell: &mut Block,
 )
@@ -122,10 +121,9 @@ fn read_lost<B: Backplane, C: Code>(
     requires stripe { stripe < (B.Backplane.view plane.old).blocks }
     requires column { column < started.now.shape.slots }
     requires repairable { lost_in (coding_on C.Code (B.Backplane.view plane.old)) (B.Backplane.view plane.old) started.now.header stripe ≤ C.Code.ROWS }
-    requires size { length into.old ≡ 512 }
     ensures got { into.new ≡ row_of (coding_on C.Code (B.Backplane.view plane.old)) (B.Backplane.view plane.old) started.now.header stripe column }
     ensures kept { B.Backplane.view plane.new ≡ B.Backplane.view plane.old }
 {
     load_row::<B, C>(plane, started, stripe, row, cell);
-    into.copy_from_slice(row_column(row, column));
+    *into = *row_column(row, column);
 }

@@ -11,11 +11,11 @@ ghost use Rattle.array.specs.Repairs.{NextStripe, repairs};
 
 use crate::array::Array;
 use crate::parts::{Block, Parts, Row, check_work, split_work};
-use crate::places::{put_block, put_cell};
+use crate::places::put;
 use crate::row::{add_pending, check_repairable, load_row, row_column};
 use crate::started::Started;
 use backplane::Backplane;
-use backplane::fault::BackplaneFault;
+use backplane::fault::{BackplaneFault, Place};
 use codes::Code;
 use faults::fault::ArrayFault;
 use layout::blocks::WorkArea;
@@ -88,7 +88,7 @@ impl<B: Backplane, C: Code> Array<B, C> {
     {
         let cell = header.cell(shape);
         self.hold_after(header, |plane| {
-            store_counted(plane, slot, stripe, block, &cell)
+            store_rebuilt(plane, slot, stripe, block, &cell)
         })?;
         Ok(stripe + 1)
     }
@@ -135,11 +135,11 @@ fn find_block<B: Backplane, C: Code>(
     let column = column_on(started.shape.slots, stripe, slot);
     load_row::<B, C>(plane, started, stripe, row, cell);
     add_pending::<B, C>(plane, started, stripe, column, row, cell);
-    block.copy_from_slice(row_column(row, column));
+    *block = *row_column(row, column);
 }
 
 // The block comes first, so that it is never counted as good before it is there.
-fn store_counted<B: Backplane>(
+fn store_rebuilt<B: Backplane>(
     plane: &mut B,
     slot: u32,
     stripe: u32,
@@ -153,7 +153,6 @@ fn store_counted<B: Backplane>(
     requires stripe { stripe < (B.Backplane.view plane.old).blocks }
     ensures { Performed (to_block slot stripe block.now ∷ (to_cell 0 cell.now ∷ [])) (B.Backplane.view plane.old) result (B.Backplane.view plane.new) }
 {
-    put_block(plane, slot, stripe, block)?;
-    put_cell(plane, 0, cell)?;
-    Ok(())
+    put(plane, Place::OfBlock(slot, stripe), block)?;
+    put(plane, Place::OfCell(0), cell)
 }

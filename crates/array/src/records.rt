@@ -9,9 +9,10 @@ ghost use Rattle.array.specs.Ready.{Opens};
 ghost use Rattle.array.specs.Starts.{Walks, ToFinish};
 
 use crate::parts::{Block, Row};
-use crate::places::get_cell;
+use crate::places::get;
 use crate::started::Started;
 use backplane::Backplane;
+use backplane::fault::Place;
 use codes::Code;
 use faults::fault::LogFault;
 use layout::head::{Head, decode_head};
@@ -20,19 +21,12 @@ use layout::head::{Head, decode_head};
 pub(crate) fn lacks_room<C: Code>(started: &Started, more: u32, records: u32) -> bool
     ensures { result ≡ nat_lt (started.now.shape.cells - 1) (started.now.header.used + more + (1 + C.Code.ROWS) * records) }
 {
-    let record = 1 + check_columns::<C>() as u64;
+    let record = 1 + C::ROWS as u64;
     let end = started.header.used as u64 + more as u64 + record * records as u64;
     end > started.shape.cells.saturating_sub(1) as u64
 }
 
-// The check columns, one for each check row.
-pub(crate) fn check_columns<C: Code>() -> u8
-    ensures { result ≡ C.Code.ROWS }
-{
-    C::ROWS as u8
-}
-
-// Whether the log has no room for the parity records that it owes, one for each stripe with pending records.
+// Whether the log has no room for a parity record of each stripe with pending records.
 pub(crate) fn is_overfull<B: Backplane, C: Code>(
     plane: &mut B,
     started: &Started,
@@ -91,7 +85,7 @@ pub(crate) fn last_record<B: Backplane, C: Code>(
     ensures kept { B.Backplane.view plane.new ≡ B.Backplane.view plane.old }
 {
     let at = last?;
-    get_cell(plane, at, cell);
+    get(plane, Place::OfCell(at), cell);
     let stripes = plane.blocks();
     let head = decode_head(started.shape.columns, stripes, cell)?;
     Some((at, head))

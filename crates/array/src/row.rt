@@ -1,5 +1,5 @@
 // A stripe of a started array: where its blocks lie, its columns, and its row.
-ghost use Rattle.std.specs.Prelude.{◌≡◌, ◌+◌, ◌-◌, ◌*◌, ◌<◌, ◌≤◌, true, false, length, IfSome, MatchOption};
+ghost use Rattle.std.specs.Prelude.{◌≡◌, ◌+◌, ◌-◌, ◌*◌, ◌<◌, ◌≤◌, true, false, IfSome, MatchOption};
 ghost use Rattle.layout.specs.Bytes.{sum_of};
 ghost use Rattle.layout.specs.Stripes.{slot_of, stripe_of, column_of};
 ghost use Rattle.model.specs.Row.{good_at, settled_with};
@@ -13,9 +13,10 @@ ghost use Rattle.array.specs.Repairs.{Repairable};
 ghost use Rattle.array.specs.Starts.{to_good};
 
 use crate::parts::{BLOCK, Block, Row};
-use crate::places::put_block;
+use crate::places::put;
 use crate::started::Started;
 use backplane::Backplane;
+use backplane::fault::Place;
 use codes::Code;
 use faults::fault::{ArrayFault, StripeFault};
 use layout::blocks::sum_into;
@@ -79,15 +80,14 @@ pub(crate) fn store_good<B: Backplane>(
     started: &Started,
     stripe: u32,
     column: u8,
-    bytes: &[u8],
+    bytes: &Block,
 ) -> Result<(), ArrayFault>
     requires fits { Fits (B.Backplane.view plane.old) started.now }
     requires stripe { stripe < (B.Backplane.view plane.old).blocks }
-    requires size { length bytes.now ≡ 512 }
     ensures { Performed (to_good started.now.shape.slots (B.Backplane.view plane.old).live started.now.header stripe column bytes.now) (B.Backplane.view plane.old) result (B.Backplane.view plane.new) }
 {
     match good_slot(plane, started, stripe, column) {
-        Some(slot) => Ok(put_block(plane, slot, stripe, bytes)?),
+        Some(slot) => put(plane, Place::OfBlock(slot, stripe), bytes),
         None => Ok(()),
     }
 }
@@ -127,11 +127,12 @@ pub(crate) fn add_pending<B: Backplane, C: Code>(
 }
 
 // A column of the row.
-pub(crate) fn row_column(row: &Row, column: u8) -> &[u8]
+pub(crate) fn row_column(row: &Row, column: u8) -> &Block
     requires { column < 16 }
-    ensures value { result.now ≡ column_in row.now column }
-    ensures size { length result.now ≡ 512 }
+    ensures { result.now ≡ column_in row.now column }
 {
-    let at = BLOCK * column as usize;
-    &row[at..at + BLOCK]
+    let Some(block) = row[BLOCK * column as usize..].first_chunk() else {
+        unreachable()
+    };
+    block
 }

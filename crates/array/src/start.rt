@@ -11,10 +11,11 @@ ghost use Rattle.array.specs.Starts.{start_on};
 use crate::array::Array;
 use crate::finish::finish_last;
 use crate::parts::{Block, Parts, Row, check_work, split_work};
-use crate::places::get_cell;
+use crate::places::get;
 use crate::records::{is_overfull, last_head};
 use crate::started::Started;
 use backplane::Backplane;
+use backplane::fault::Place;
 use codes::Code;
 use faults::fault::{ArrayFault, LogFault};
 use layout::blocks::WorkArea;
@@ -73,7 +74,7 @@ impl<B: Backplane, C: Code> Array<B, C> {
         self.finish_start(started, last, cell)
     }
 
-    // The array holds the header once the last record is finished.
+    // The array holds the header once the last record is finished. Not by `hold_after`: its closure would repeat the clauses of `finish_last`.
     fn finish_start(
         &mut self,
         started: &Started,
@@ -105,7 +106,7 @@ fn read_header<B: Backplane, C: Code>(
     ensures started { IfSome result (λ s. Opens (coding_on C.Code (B.Backplane.view plane.old)) (B.Backplane.view plane.old) s) }
     ensures kept { B.Backplane.view plane.new ≡ B.Backplane.view plane.old }
 {
-    get_cell(plane, 0, cell);
+    get(plane, Place::OfCell(0), cell);
     let header = Header::decode(&shape, C::ROWS as u32, cell)?;
     Some(Started { header, shape })
 }

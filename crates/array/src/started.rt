@@ -1,5 +1,5 @@
 // What a started array goes by.
-ghost use Rattle.std.specs.Prelude.{◌≡◌};
+ghost use Rattle.std.specs.Prelude.{◌≡◌, ◌-◌, ◌≤◌};
 
 use layout::header::Header;
 use layout::shape::Shape;
@@ -23,6 +23,14 @@ impl Started {
             columns: self.shape.columns,
             used: self.header.used,
         }
+    }
+
+    // How many check rows a stripe has.
+    pub(crate) fn checks(&self) -> u8
+        requires { self.now.shape.columns ≤ self.now.shape.slots }
+        ensures { result ≡ self.now.shape.slots - self.now.shape.columns }
+    {
+        self.shape.slots - self.shape.columns
     }
 
     // The stripe of this number.

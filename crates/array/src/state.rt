@@ -6,9 +6,10 @@ ghost use Rattle.array.specs.Calls.{view_of, coding_of, shape_for, limited, open
 ghost use Rattle.array.specs.Ready.{Sized, Ready, Opens};
 
 use crate::array::Array;
-use crate::places::put_cell;
+use crate::places::put;
 use crate::started::Started;
 use backplane::Backplane;
+use backplane::fault::Place;
 use codes::Code;
 use faults::fault::ArrayFault;
 use layout::header::Header;
@@ -84,7 +85,7 @@ impl<B: Backplane, C: Code> Array<B, C> {
         ensures held { self.new.header ≡ held_after header result }
     {
         let cell = header.cell(shape);
-        self.hold_after(header, |plane| Ok(put_cell(plane, 0, &cell)?))
+        self.hold_after(header, |plane| put(plane, Place::OfCell(0), &cell))
     }
 
     // Makes stores. No header is held from the first to the last, so that a cut leaves the array not started; then this one is.

@@ -12,7 +12,7 @@ ghost use Rattle.array.specs.Writes.{WriteJudged};
 
 use crate::array::{Array, WORK};
 use crate::parts::{BLOCK, Block, Parts, Row, split_work};
-use crate::record::{Record, store_write};
+use crate::record::{RECORD, Record, store_write};
 use crate::records::{count_pending, lacks_room};
 use crate::row::{check_repairable, load_row, locate_block, row_column};
 use crate::started::Started;
@@ -44,9 +44,9 @@ impl<B: Backplane, C: Code> Array<B, C> {
         requires { 10240 ≤ length work.old }
         ensures { Follows B.Backplane C.Code (Write block bytes.now (length work.old)) self.old (reply_of acked result) self.new }
     {
-        if bytes.len() != BLOCK {
+        let Ok(bytes) = <&Block>::try_from(bytes) else {
             return Err(ArrayFault::BlockLength);
-        }
+        };
         if !self.has_block(block) {
             return Err(ArrayFault::OfStripe(StripeFault::NoBlock));
         }
@@ -61,12 +61,11 @@ impl<B: Backplane, C: Code> Array<B, C> {
         &mut self,
         started: &Started,
         block: u32,
-        bytes: &[u8],
+        bytes: &Block,
         work: &mut [u8],
     ) -> Result<(), ArrayFault>
         requires started { Opens (coding_of B.Backplane C.Code self.old) (view_of B.Backplane C.Code self.old) started.now }
         requires block { block < (view_of B.Backplane C.Code self.old).blocks * ((view_of B.Backplane C.Code self.old).slots - C.Code.ROWS) }
-        requires size { length bytes.now ≡ 512 }
         requires room { 10240 ≤ length work.old }
         ensures { Ended B.Backplane C.Code (write_open (coding_of B.Backplane C.Code self.old) (view_of B.Backplane C.Code self.old) started.now.header (stripe_of ((view_of B.Backplane C.Code self.old).slots - C.Code.ROWS) block) (column_of ((view_of B.Backplane C.Code self.old).slots - C.Code.ROWS) block) bytes.now) self.old (reply_of acked result) self.new }
     {
@@ -80,13 +79,12 @@ impl<B: Backplane, C: Code> Array<B, C> {
         started: &Started,
         stripe: u32,
         column: u8,
-        bytes: &[u8],
+        bytes: &Block,
         parts: Parts<'_>,
     ) -> Result<(), ArrayFault>
         requires started { Opens (coding_of B.Backplane C.Code self.old) (view_of B.Backplane C.Code self.old) started.now }
         requires stripe { stripe < (view_of B.Backplane C.Code self.old).blocks }
         requires column { column < started.now.shape.slots }
-        requires size { length bytes.now ≡ 512 }
         ensures { Ended B.Backplane C.Code (write_open (coding_of B.Backplane C.Code self.old) (view_of B.Backplane C.Code self.old) started.now.header stripe column bytes.now) self.old (reply_of acked result) self.new }
     {
         let Parts { row, cell, block } = parts;
@@ -110,17 +108,16 @@ impl<B: Backplane, C: Code> Array<B, C> {
         started: &Started,
         stripe: u32,
         column: u8,
-        bytes: &[u8],
+        bytes: &Block,
         delta: &Block,
     ) -> Result<(), ArrayFault>
         requires started { Opens (coding_of B.Backplane C.Code self.old) (view_of B.Backplane C.Code self.old) started.now }
         requires stripe { stripe < (view_of B.Backplane C.Code self.old).blocks }
         requires free { started.now.header.used + 3 < (view_of B.Backplane C.Code self.old).cells }
-        requires size { length bytes.now ≡ 512 }
         ensures { Made (appending (coding_of B.Backplane C.Code self.old) (view_of B.Backplane C.Code self.old) started.now.header (write stripe column delta.now bytes.now)) Same tt (Some (grown (coding_of B.Backplane C.Code self.old) (view_of B.Backplane C.Code self.old) started.now.header (write stripe column delta.now bytes.now))) (view_of B.Backplane C.Code self.old) result (view_of B.Backplane C.Code self.new) self.new.header }
     {
         let head = Head::OfWrite(stripe, column).cell();
-        let counted = started.header.with_used(started.header.used + 3);
+        let counted = started.header.with_used(started.header.used + RECORD);
         let cell = counted.cell(&started.shape);
         let written = Record {
             head: &head,
@@ -131,7 +128,7 @@ impl<B: Backplane, C: Code> Array<B, C> {
         self.store_counted(started, counted, stripe, column, written)
     }
 
-    // No header is held from the first store to the last, so that a cut leaves the array not started. Not by `hold_after`: the proof does not close over stores in phases.
+    // No header is held from the first store to the last, so that a cut leaves the array not started. Not by `hold_after`: its closure would repeat the clauses of `store_write`.
     fn store_counted(
         &mut self,
         started: &Started,
@@ -143,7 +140,6 @@ impl<B: Backplane, C: Code> Array<B, C> {
         requires fits { Fits (view_of B.Backplane C.Code self.old) started.now }
         requires free { started.now.header.used + 3 < (view_of B.Backplane C.Code self.old).cells }
         requires stripe { stripe < (view_of B.Backplane C.Code self.old).blocks }
-        requires size { length written.image.now ≡ 512 }
         ensures { Made (write_stores started.now.shape.slots (view_of B.Backplane C.Code self.old).live started.now.header stripe column written.entry.head.now written.entry.delta.now written.entry.image.now written.entry.cell.now) Same tt (Some header) (view_of B.Backplane C.Code self.old) result (view_of B.Backplane C.Code self.new) self.new.header }
     {
         self.header = None;
@@ -153,7 +149,7 @@ impl<B: Backplane, C: Code> Array<B, C> {
     }
 }
 
-// Refuses a stripe that is past repair, and a log that has no room for the record and for the parity records that it then owes.
+// Refuses a stripe that is past repair, and a log that has no room for the record and then for a parity record of each stripe with pending records.
 fn check_write<B: Backplane, C: Code>(
     plane: &mut B,
     started: &Started,
@@ -167,7 +163,7 @@ fn check_write<B: Backplane, C: Code>(
 {
     check_repairable::<B, C>(plane, started, stripe)?;
     let pending = count_pending::<B, C>(plane, started, Some(stripe), map, cell);
-    if lacks_room::<C>(started, 3, pending) {
+    if lacks_room::<C>(started, RECORD, pending) {
         let last = plane.cells() - 1;
         return Err(ArrayFault::OfLog(LogFault::Full(last - started.header.used)));
     }
@@ -180,7 +176,7 @@ fn find_delta<B: Backplane, C: Code>(
     started: &Started,
     stripe: u32,
     column: u8,
-    bytes: &[u8],
+    bytes: &Block,
     delta: &mut Block,
     row: &mut Row,
     cell: &mut Block,
@@ -189,7 +185,6 @@ fn find_delta<B: Backplane, C: Code>(
     requires stripe { stripe < (B.Backplane.view plane.old).blocks }
     requires column { column < started.now.shape.slots }
     requires repairable { lost_in (coding_on C.Code (B.Backplane.view plane.old)) (B.Backplane.view plane.old) started.now.header stripe ≤ C.Code.ROWS }
-    requires size { length bytes.now ≡ 512 }
     ensures found { delta.new ≡ sum_of (row_of (coding_on C.Code (B.Backplane.view plane.old)) (B.Backplane.view plane.old) started.now.header stripe column) bytes.now }
     ensures kept { B.Backplane.view plane.new ≡ B.Backplane.view plane.old }
 {

@@ -13,9 +13,9 @@ returns-clause-value g c =
     let k = c.args.started.now.shape.columns in
     let n = c.blocks-stripes.result in
     let found : c.args.last ≡ Some at = search rules in
-    let blocks : n ≡ p.blocks = c.blocks-stripes.ensures ∙ ap (λ (x : Bytes). x.blocks) c.get_cell.ensures.kept in
+    let blocks : n ≡ p.blocks = c.blocks-stripes.ensures ∙ ap (λ (x : Bytes). x.blocks) c.get.ensures.kept in
     let e = c.in_ok-head.ensures.value
-    ∙ ap (λ (x : List ℕ). head_in k n x) c.get_cell.ensures.got
+    ∙ ap (λ (x : List ℕ). head_in k n x) c.get.ensures.got
     ∙ ap (λ (s : ℕ). head_in k s (p.cell at)) blocks
     ∙ ap (λ (j : ℕ). head_in j p.blocks (p.cell at)) c.requires.started.columns in
     last-to-finish K p c.args.started.now.header c.args.last at c.in_ok-head.head found c.requires.started.ready.used c.requires.last e

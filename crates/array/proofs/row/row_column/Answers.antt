@@ -1,10 +1,12 @@
-use Rattle.std.proofs.Common.{◌≡◌, ℕ, ◌+◌, ◌-◌, ◌*◌, arith}
-use Rattle.rows.proofs.Placed.{column-is}
+use Rattle.std.proofs.Common.{◌≡◌, ℕ, List, ◌-◌, ◌*◌, length, take, drop, ap, ◌∙◌, arith}
+use Rattle.std.proofs.lemmas.List.{length-drop, take_all}
+use Rattle.rows.specs.Columns.{column_in}
 use Rattle.array.proofs.row.row_column.Goals as goal
 
-pub returns-clause-value : goal.returns-clause-value
-returns-clause-value c =
-    let at : ℕ = c.args.column in
-    let w = 512 * at + 512 - 512 * at in
-    let e : w ≡ 512 = omega arith in
-    column-is c.args.row.now at w e
+pub returns : goal.returns
+unfolding column_in
+returns c =
+    let at : ℕ = 512 * c.args.column in
+    let rest : List ℕ = drop at c.args.row.now in
+    let long : length rest ≡ length c.args.row.now - at = length-drop at c.args.row.now in
+    c.in-Some.ensures.cases.same ∙ ap (take 512) (take_all (8192 - at) rest (omega arith))
