@@ -47,6 +47,7 @@ class Function:
         opened = text.index("(", at)
         if "<" in text[at:opened]:
             opened = text.index("(", closing(text.replace("->", "  "), text.index("<", at), "<>"))
+        self.generics = text[at:opened]
         closed = closing(text, opened, "()")
         self.parameters = split(text[opened + 1 : closed])
         rest = text[closed + 1 :]
@@ -152,7 +153,7 @@ said("an array of a fixed size with a count or a list of flags beside it", [f"{f
 
 print("7. Steps")
 said("walks over records, each with its own step in the loop", loops(r"loop \{[^}]*head_at|while at <= used"))
-said("functions that take a closure", where(lambda f: bool(re.search(r"Fn(Once|Mut)?\(", " ".join(f.parameters)))))
+said("functions that take a closure", where(lambda f: bool(re.search(r"\bFn(Once|Mut)?\(", f.generics + " ".join(f.parameters)))))
 
 print("8. Proofs")
 answers = [p for p in TOP.glob("crates/*/proofs/**/*.antt") if p.name in ("Answers.antt", "Invariants.antt", "Proof.antt")]
