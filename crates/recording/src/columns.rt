@@ -3,9 +3,15 @@ use crate::{DATA, STRIPE, width};
 use codes::{Code, RowFault};
 use std::alloc::{AllocError, Global};
 
+// All columns that there may be: a code has four checks at most.
+const PLACES: usize = DATA + 4;
+
 // The bytes at one place of all columns, those of data first; zeros behind the last.
 // Of a fixed length: tried with a const parameter N, and the part of such a row owes N < 2^63, which nothing knows.
-type Row = [u8; 16];
+type Row = [u8; PLACES];
+
+// A flag for each column.
+pub(crate) type Lost = [bool; PLACES];
 
 #[derive(Drop)]
 pub struct Columns {
@@ -24,7 +30,7 @@ fn row_at(stripe: &[u8], i: usize) -> Row {
 }
 
 // Overwrites the bytes that are lost.
-fn lose(row: &mut Row, lost: &[bool; 16]) {
+fn lose(row: &mut Row, lost: &Lost) {
     for (b, gone) in row.iter_mut().zip(lost.iter()) {
         if *gone {
             *b = GONE;
@@ -34,12 +40,12 @@ fn lose(row: &mut Row, lost: &[bool; 16]) {
 
 // The part of a row that a code has columns for.
 fn part<C: Code>(row: &mut Row) -> &mut [u8] {
-    let n = width::<C>().min(16);
+    let n = width::<C>().min(PLACES);
     &mut row[..n]
 }
 
 // The row with its lost bytes overwritten and restored, unless that is refused.
-fn restored_row<C: Code>(kept: &Row, lost: &[bool; 16]) -> Result<Row, RowFault> {
+fn restored_row<C: Code>(kept: &Row, lost: &Lost) -> Result<Row, RowFault> {
     let mut row = *kept;
     lose(&mut row, lost);
     codes::restore::<C>(DATA, part::<C>(&mut row), lost)?;
@@ -49,8 +55,9 @@ fn restored_row<C: Code>(kept: &Row, lost: &[bool; 16]) -> Result<Row, RowFault>
 impl Columns {
     // Block b of the recording goes to column b mod DATA; the last stripe is filled up with zeros. The code's checks stand behind.
     pub(crate) fn spread<C: Code>(heap: Global, recording: &[u8]) -> Result<Self, AllocError> {
+        let places = recording.len().div_ceil(STRIPE).saturating_mul(512);
         let mut columns = Columns {
-            rows: Vec::new(heap),
+            rows: Vec::with_capacity(heap, places)?,
         };
         for stripe in recording.chunks(STRIPE) {
             columns.push_stripe::<C>(stripe)?;
@@ -72,30 +79,27 @@ impl Columns {
         self.rows.len()
     }
 
-    // The columns with the lost ones overwritten and restored, row by row; none if a row was refused.
+    // The first `length` bytes of the recording, from its data columns once the lost ones are overwritten and restored, stripe by stripe; none if a row was refused.
     pub(crate) fn restored<C: Code>(
         &self,
         heap: Global,
-        lost: &[bool; 16],
-    ) -> Result<Option<Self>, AllocError> {
+        lost: &Lost,
+        length: usize,
+    ) -> Result<Option<Vec<u8>>, AllocError> {
+        let mut out = Vec::with_capacity(heap, self.rows.len().saturating_mul(DATA))?;
         let mut rows = Vec::new(heap);
-        for kept in self.rows.iter() {
-            let Ok(row) = restored_row::<C>(kept, lost) else {
-                return Ok(None);
-            };
-            rows.push(row)?;
-        }
-        Ok(Some(Columns { rows }))
-    }
-
-    // The first `length` bytes of the recording, from its data columns.
-    pub(crate) fn joined(&self, heap: Global, length: usize) -> Result<Vec<u8>, AllocError> {
-        let mut out = Vec::new(heap);
         for stripe in self.rows.chunks(512) {
-            push_data(&mut out, stripe)?;
+            rows.clear();
+            for kept in stripe.iter() {
+                let Ok(row) = restored_row::<C>(kept, lost) else {
+                    return Ok(None);
+                };
+                rows.push(row)?;
+            }
+            push_data(&mut out, rows.as_slice())?;
         }
         out.truncate(length);
-        Ok(out)
+        Ok(Some(out))
     }
 }
 

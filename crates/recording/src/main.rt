@@ -8,7 +8,7 @@ mod week;
 
 use bitwise::flags;
 use codes::{Code, DoubleParity, SingleParity};
-use columns::Columns;
+use columns::{Columns, Lost};
 use std::alloc::Global;
 use std::{env, fs};
 
@@ -33,13 +33,12 @@ struct Outcome {
 fn survives<C: Code>(
     heap: Global,
     spread: &Columns,
-    lost: &[bool; 16],
+    lost: &Lost,
     recording: &[u8],
 ) -> anyhow::Result<bool> {
-    let Some(columns) = spread.restored::<C>(heap, lost)? else {
+    let Some(back) = spread.restored::<C>(heap, lost, recording.len())? else {
         return Ok(false);
     };
-    let back = columns.joined(heap, recording.len())?;
     Ok(back.as_slice() == recording)
 }
 
@@ -56,13 +55,19 @@ fn lose_all<C: Code>(heap: Global, spread: &Columns, recording: &[u8]) -> anyhow
     Ok(outcome)
 }
 
-// A recording under a code, and through a week on an array with it.
+// A recording under a code, and through a week on an array with it. The columns are let go before the week.
 fn treat<C: Code + Drop>(
     rt: &HostRuntime,
     name: &str,
     code: C,
     recording: &[u8],
 ) -> anyhow::Result<()> {
+    treat_columns::<C>(rt, name, recording)?;
+    week::treat_week(rt, code, recording)
+}
+
+// A recording spread over columns, lost and restored in every combination.
+fn treat_columns<C: Code>(rt: &HostRuntime, name: &str, recording: &[u8]) -> anyhow::Result<()> {
     let heap = rt.alloc();
     let checks = C::check_rows();
     let spread = Columns::spread::<C>(heap, recording)?;
@@ -74,7 +79,7 @@ fn treat<C: Code + Drop>(
     } = lose_all::<C>(heap, &spread, recording)?;
     println!(rt; "  ways to lose as many columns as there are checks: {combinations}")?;
     println!(rt; "  times the recording came back as it was, byte by byte: {whole}")?;
-    week::treat_week(rt, code, recording)
+    Ok(())
 }
 
 fn run(rt: &HostRuntime) -> anyhow::Result<()> {

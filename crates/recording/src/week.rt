@@ -111,9 +111,15 @@ impl fmt::Display for Week {
     }
 }
 
+// The block of that number, where there is a whole one: by its place, since the library's `nth` passes over all before it.
+fn block_at(bytes: &[u8], number: usize) -> Option<&[u8]> {
+    let at = number.saturating_mul(512);
+    bytes.get(at..at.saturating_add(512))
+}
+
 // Whether this is the block of that number.
 fn is_block(recording: &[u8], number: u32, block: &[u8; 512]) -> bool {
-    recording.chunks(512).nth(number as usize) == Some(block.as_slice())
+    block_at(recording, number as usize) == Some(block.as_slice())
 }
 
 // The recording filled up with zeros to whole stripes, one at least.
@@ -200,7 +206,7 @@ impl<'a> Tape<'a> {
             for r in 0..slots.saturating_sub(DATA) {
                 let slot = DATA.saturating_add(r).saturating_add(s) % slots;
                 let place = slot.saturating_mul(self.stripes as usize).saturating_add(s);
-                if bytes.chunks(512).nth(place) != Some(checks::check_block(data, r).as_slice()) {
+                if block_at(bytes, place) != Some(checks::check_block(data, r).as_slice()) {
                     wrong = wrong.saturating_add(1);
                 }
             }
