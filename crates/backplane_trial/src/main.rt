@@ -94,15 +94,21 @@ fn judgements(rt: &HostRuntime) -> io::Result<()> {
         (4294967295, 4294967295, 4294967295, 0),
     ];
     for (slots, blocks, cells, length) in cases {
-        print!(rt; "{slots} slots, {blocks} blocks, {cells} cells in {length} bytes: ")?;
         let sizes = Sizes {
             slots,
             blocks,
             cells,
         };
         match judge(sizes, length) {
-            Ok(()) => println!(rt; "fits")?,
-            Err(fault) => println!(rt; "refused by {}", fault.number())?,
+            Ok(()) => println!(rt;
+                "{slots} slots, {blocks} blocks, {cells} cells in {length} bytes: fits"
+            )?,
+            Err(fault) => {
+                let number = fault.number();
+                println!(rt;
+                    "{slots} slots, {blocks} blocks, {cells} cells in {length} bytes: refused by {number}"
+                )?;
+            }
         }
     }
     Ok(())

@@ -68,10 +68,18 @@ enum Step {
 }
 
 impl Step {
+    // The byte that is stored: another in cells than in blocks.
+    fn byte(self) -> u8 {
+        match self {
+            Step::Store(Place::OfCell(_), _) => 90,
+            _ => 165,
+        }
+    }
+
     fn try_on<B: Backplane>(self, plane: &mut B) -> Result<(), BackplaneFault>
         ensures { SameSizes (B.Backplane.view plane.old) (B.Backplane.view plane.new) }
     {
-        let mut bytes = [165u8; 513];
+        let mut bytes = [self.byte(); 513];
         match self {
             Step::Store(at, length) => plane.store(at, &bytes[..length.min(513)]),
             Step::Read(at, length) => plane.read(at, &mut bytes[..length.min(513)]),
