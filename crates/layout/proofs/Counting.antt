@@ -6,6 +6,13 @@ use Rattle.std.specs.Option.{MatchOption}
 use Rattle.std.proofs.lemmas.Bool.{cases_eq, lt-ltb, cond-true}
 use Rattle.layout.specs.Counts.{count, lowest, first_of}
 
+pub count-more : (n : ℕ) (f : ℕ → Bool) → count (n + 1) f ≡ cond (f n) 1 0 + count n f
+count-more n f = ap (λ (m : ℕ). count m f) (add-one n)
+
+pub count_most : (n : ℕ) (f : ℕ → Bool) → count n f ≤ n
+count_most zero f = omega arith
+count_most (suc n) f = let h = count_most n f in elim (f n) as (λ (b : Bool). cond b 1 0 + count n f ≤ suc n) [ true ↦ omega arith | false ↦ omega arith ]
+
 pub count-some : (n : ℕ) (f : ℕ → Bool) (s : ℕ) → s < n → f s ≡ true → 0 < count n f
 count-some zero f s h e = absurd (omega arith)
 count-some (suc n) f s h e = elim (cases_eq s n) [
@@ -21,6 +28,10 @@ count_same (suc n) f g e = ap₂ (λ (b : Bool) (m : ℕ). cond b 1 0 + m) (e n 
 pub lowest-same : (n : ℕ) (f g : ℕ → Bool) (i : ℕ) → ((t : ℕ) → i ≤ t → t < i + n → f t ≡ g t) → lowest n f i ≡ lowest n g i
 lowest-same zero f g i e = refl
 lowest-same (suc n) f g i e = ap₂ (λ (b : Bool) (m : ℕ). cond b i m) (e i (omega arith) (omega arith)) (lowest-same n f g (suc i) (λ t a b. e t (omega arith) (omega arith)))
+
+pub first_of-same : (n : ℕ) (f g : ℕ → Bool) → ((t : ℕ) → t < n → f t ≡ g t) → first_of n f ≡ first_of n g
+first_of-same n f g e =
+    ap₂ (λ (c l : ℕ). cond (ltb 0 c) (Some l) None) (count_same n f g e) (lowest-same n f g 0 (λ t a b. e t (omega arith)))
 
 module _ (f : ℕ → Bool) (n s : ℕ) (h : s < n) where
   one_less : n - s ≡ suc (n - (s + 1))

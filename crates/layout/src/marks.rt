@@ -28,11 +28,17 @@ pub fn is_marked(map: &[u8], stripe: u32) -> bool
     has_bit(byte_at(map, stripe as usize / 8), stripe % 8)
 }
 
-// How many of so many stripes are marked.
+// How many of so many stripes are marked. A loop: every write counts all stripes, and the chain of `filter` and `count` takes twice the instructions for each.
 pub fn count_marked(map: &[u8], stripes: u32) -> u32
     ensures { result ≡ count stripes (marked map.now) }
 {
-    (0..stripes).filter(|s| is_marked(map, *s)).count() as u32
+    let mut n = 0;
+    for s in 0..stripes {
+        if is_marked(map, s) {
+            n += 1;
+        }
+    }
+    n
 }
 
 // The lowest of so many stripes that is marked, if any is.

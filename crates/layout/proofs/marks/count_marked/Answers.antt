@@ -1,16 +1,15 @@
-use Rattle.std.proofs.Common.{◌+◌, ap, ◌∙◌, rules, arith}
-use borrow.Author.Tests.{tests}
-use Rattle.std.specs.List.{range_with_len}
-use Rattle.std.proofs.lemmas.Iterator.{YieldsList-from_range}
-use Rattle.std.proofs.lemmas.Iterator.Consumers.{count_from_yields_List, YieldsList-from_filter}
-use Rattle.std.proofs.lemmas.List.Sums.{length-filter}
+use Rattle.std.proofs.Common.{◌≡◌, ℕ, Bool, cond, sym, ap, arith}
 use Rattle.layout.specs.Marks.{marked}
-use Rattle.layout.proofs.Counting.{count-range, count_same}
+use Rattle.layout.proofs.Counting.{count-more}
 use Rattle.layout.proofs.marks.count_marked.Goals as goal
+use Rattle.layout.proofs.marks.count_marked.Goals.{then-is_marked, else-is_marked}
 
-pub returns : goal.returns
-returns c =
+pub loop-s-preserved : goal.loop-s-preserved
+loop-s-preserved c =
     let f = marked c.args.map.now in
-    let n = c.args.stripes in
-    count_from_yields_List c.filter.result _ c.count.ensures.ran (YieldsList-from_filter _ f (YieldsList-from_range 0 n n (cc) (omega arith)) c.filter.ensures.closure (λ x b q k. search (rules, tests)))
-    ∙ length-filter f (range_with_len 0 n) ∙ count-range n 0 f ∙ count_same n (λ k. f (0 + k)) f (λ t h. ap f (omega arith))
+    let s = c.loop-s.s in
+    let m = count-more s f in
+    elim c.if-is_marked.branch [
+      | then-is_marked w ↦ let one : ◌≡◌ {A = ℕ} (cond (f s) 1 0) 1 = ap (λ (b : Bool). cond b 1 0) (sym w.if-is_marked.ensures) in (omega (arith, w.n-is), omega (arith, w.n-is))
+      | else-is_marked w ↦ let one : ◌≡◌ {A = ℕ} (cond (f s) 1 0) 0 = ap (λ (b : Bool). cond b 1 0) (sym w.if-is_marked.ensures) in (omega (arith, w.n-is), omega (arith, w.n-is))
+    ]
