@@ -24,12 +24,12 @@ use Rattle.array.proofs.Steps.{performed-append, performed-cut, stored-kept, kep
 use Rattle.array.specs.Starts.{to_good, to_good_checks, finish_by, Placed, ToFinish}
 
 -- a store in a block leaves the cells
+pub block-cells : (b : Bool) (d s : ℕ) (x : List ℕ) (p : Bytes) → (stored_all (cond b (to_block d s x ∷ []) []) p).cell ≡ p.cell
+block-cells true d s x p = refl
+block-cells false d s x p = refl
+
 pub good-cells : (n : ℕ) (live : ℕ → Bool) (h : Header) (s c : ℕ) (x : List ℕ) (p : Bytes) → (stored_all (to_good n live h s c x) p).cell ≡ p.cell
-good-cells n live h s c x p = go (good_at n live (good_of h) s c)
-  where
-    go : (b : Bool) → (stored_all (cond b (to_block (slot_of n s c) s x ∷ []) []) p).cell ≡ p.cell
-    go true = refl
-    go false = refl
+good-cells n live h s c x p = block-cells (good_at n live (good_of h) s c) (slot_of n s c) s x p
 
 -- one check block more, in a loop over the check rows: it is done, or cut
 module _ (n k : ℕ) (h : Header) (s : ℕ) (f : ℕ → List ℕ) (p now then : Bytes) (m r : ℕ) where

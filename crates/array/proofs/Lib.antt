@@ -1,3 +1,4 @@
+pub mod Dead
 pub mod Endings
 pub mod Finishing
 pub mod Folded

@@ -1,9 +1,9 @@
 -- What the steps of solving leave at each place.
-use Rattle.std.specs.Prelude.{◌≡◌, ℕ, zero, suc, ◌+◌, ◌<◌, ◌≤◌, Bool, true, false, cond, ◌⊎◌, List, [], ◌∷◌, length, take, ◌≢◌, slice_index, slice_set, refl}
+use Rattle.std.specs.Prelude.{◌≡◌, ℕ, zero, suc, ◌+◌, ◌-◌, ◌<◌, ◌≤◌, Bool, true, false, cond, ◌⊎◌, List, [], ◌∷◌, length, take, drop, ◌≢◌, slice_index, slice_index_or, slice_set, refl}
 use Rattle.std.proofs.Common.{sym, ◌∙◌, ap, inl, inr, arith, add-one}
 use Rattle.std.proofs.lemmas.Bool.{cases_eq, cases_lt, true≢false}
-use Rattle.std.proofs.lemmas.List.{length-set, get_or-set_same, get_or-set_other, take-set-le}
-use Rattle.codes.specs.Code.{Bytes, Lowest, Solves, lost_at}
+use Rattle.std.proofs.lemmas.List.{length-set, get_or-set_same, get_or-set_other, take-set-le, at_drop_more}
+use Rattle.codes.specs.Code.{Bytes, Lowest, Solves, lost_at, lost_count}
 use Rattle.codes.specs.Solving.{next_lost, cleared, remade, completed}
 
 pub cleared-length : (lost : List Bool) (n : ℕ) (row : List ℕ) → length (cleared lost n row) ≡ length row
@@ -137,6 +137,11 @@ module _ (f : ℕ → ℕ) (k : ℕ) (lost : List Bool) (row : List ℕ) where
       go true ih = take-set-le k (remade f k lost n row) (k + n) (f n) (omega arith) ∙ ih
       go false ih = ih
 
+-- only the values at the made rows matter
+pub remade-same : (f g : ℕ → ℕ) (k : ℕ) (lost : List Bool) (row : List ℕ) (n : ℕ) → ((r : ℕ) → r < n → f r ≡ g r) → remade f k lost n row ≡ remade g k lost n row
+remade-same f g k lost row zero e = refl
+remade-same f g k lost row (suc n) e = rw (remade-same f g k lost row n (λ r h. e r (omega arith)), e n (omega arith))
+
 -- a row whose lost data are filled in is solved once its lost checks are made from them
 pub completes : (check : ℕ → List ℕ → ℕ) (rows k : ℕ) (row z : List ℕ) (lost : List Bool) → ((r : ℕ) (xs : List ℕ) → Bytes xs → check r xs < 256)
     → length row ≡ k + rows → length z ≡ length row → Bytes z → ((c : ℕ) → (c < k → lost_at lost c ≡ false) → slice_index z c ≡ slice_index row c) → Lowest check rows k row lost (take k z)
@@ -164,3 +169,19 @@ remade-true f k lost n row e = rw add-one (rw (← e))
 
 pub remade-false : (f : ℕ → ℕ) (k : ℕ) (lost : List Bool) (n : ℕ) (row : List ℕ) → false ≡ lost_at lost (k + n) → remade f k lost (n + 1) row ≡ remade f k lost n row
 remade-false f k lost n row e = rw add-one (rw (← e))
+
+pub next-false : (lost : List Bool) (c to : ℕ) → c < to → false ≡ lost_at lost c → next_lost lost c (to - c) ≡ next_lost lost (c + 1) (to - (c + 1))
+next-false lost c to h e =
+    let a : to - c ≡ suc (to - (c + 1)) = omega arith in
+    ap (next_lost lost c) a ∙ (ap (λ t. cond t c (next_lost lost (suc c) (to - (c + 1)))) (sym e) ∙ ap (λ d. next_lost lost d (to - (c + 1))) (sym (add-one c)))
+
+pub next-true : (lost : List Bool) (c to : ℕ) → c < to → true ≡ lost_at lost c → next_lost lost c (to - c) ≡ c
+next-true lost c to h e =
+    let a : to - c ≡ suc (to - (c + 1)) = omega arith in
+    ap (next_lost lost c) a ∙ ap (λ t. cond t c (next_lost lost (suc c) (to - (c + 1)))) (sym e)
+
+pub next-end : (lost : List Bool) (c to : ℕ) → c ≤ to → to ≤ c → next_lost lost c (to - c) ≡ c
+next-end lost c to h l = let a : to - c ≡ 0 = omega arith in ap (next_lost lost c) a
+
+pub count_turn : (lost : List Bool) (i : ℕ) → i < length lost → (b : Bool) → b ≡ slice_index_or lost i false → lost_count (drop i lost) ≡ cond b 1 0 + lost_count (drop (i + 1) lost)
+count_turn lost i h b e = at_drop_more lost_count lost i false h ∙ ap (λ t. cond t 1 0 + lost_count (drop (i + 1) lost)) (sym e)

@@ -36,6 +36,10 @@ goods-at slots blocks (suc n) good e d h =
       | inr o ↦ goods-at slots blocks n good p.1 d (omega arith)
     ]
 
+pub goods_fit-more : (slots blocks d : ℕ) (good : List ℕ) → goods_fit slots blocks (d + 1) good ≡ (leb (get_or good d 0) (cond (ltb d slots) blocks 0) && goods_fit slots blocks d good)
+unfolding goods_fit
+goods_fit-more slots blocks d good = ap (λ (n : ℕ). goods_fit slots blocks n good) (add-one d)
+
 fits-front : (slots blocks : ℕ) (good : List ℕ) (i : ℕ) → i ≤ length good → list_all (λ (p : ℕ × ℕ). leb p.1 (cond (ltb p.0 slots) blocks 0)) (take i (enumerate_from 0 good)) ≡ goods_fit slots blocks i good
 unfolding goods_fit
 fits-front slots blocks good zero h = refl

@@ -1,5 +1,5 @@
 -- What is encoded from a head that fits decodes to it.
-use Rattle.std.proofs.Common.{◌≡◌, ℕ, ◌<◌, true, false, ltb, List, get_or, Some, None, Option, sym, refl, ap, ◌∙◌}
+use Rattle.std.proofs.Common.{◌≡◌, ℕ, ◌<◌, true, false, ltb, List, length, get_or, Some, None, Option, sym, refl, ap, ◌∙◌}
 use Rattle.std.specs.Str.{bytes_eq}
 use Rattle.std.proofs.lemmas.Bool.{and_parts, and_from, and_right, cond-true, cond-false}
 use Rattle.layout.specs.Bytes.{four_at}
@@ -20,6 +20,10 @@ column-back kind column stripe = refl
 other-kind : (column stripe c s : ℕ) → bytes_eq (head_cell 2 column stripe) (head_cell 1 c s) ≡ false
 unfolding head_cell
 other-kind column stripe c s = refl
+
+pub length-head_cell : (kind column stripe : ℕ) → length (head_cell kind column stripe) ≡ 512
+unfolding head_cell
+length-head_cell kind column stripe = refl
 
 module _ (k stripes : ℕ) where
   pub write-back : (stripe column : ℕ) → stripe < 4294967296 → ltb stripe stripes ≡ true → ltb column k ≡ true → head_in k stripes (head_cell 1 column stripe) ≡ Some (OfWrite stripe column)

@@ -10,6 +10,12 @@ round n s d h =
     let e : d + (n - s % n) + s % n ≡ d + n = omega arith in
     sym (add-mod-mod (d + (n - s % n)) s n) ∙ ap (λ (x : ℕ). x % n) e ∙ add-mod_right d n ∙ mod-eq_of_lt h
 
+pub slot_of-below : (n s c : ℕ) → 0 < n → slot_of n s c < n
+slot_of-below n s c h = mod-lt (c + s) h
+
+pub column_on-below : (n s d : ℕ) → 0 < n → column_on n s d < n
+column_on-below n s d h = mod-lt (d + (n - s % n)) h
+
 pub slot_of-column_on : (n s d : ℕ) → d < n → slot_of n s (column_on n s d) ≡ d
 slot_of-column_on n s d h = mod-add-mod (d + (n - s % n)) n s ∙ round n s d h
 

@@ -1,9 +1,9 @@
 -- The walk over the log, one record on.
-use Rattle.std.proofs.Common.{◌≡◌, ℕ, zero, suc, ◌+◌, ◌-◌, ◌<◌, ◌≤◌, Bool, true, false, cond, ◌&&◌, eqb, ltb, leb, List, [], ◌∷◌, length, Some, None, Ok, Err, Option, sym, refl, ap, ◌∙◌, subst, inl, inr, arith}
+use Rattle.std.proofs.Common.{◌≡◌, ℕ, zero, suc, ◌+◌, ◌-◌, ◌<◌, ◌≤◌, Bool, true, false, cond, ◌&&◌, eqb, ltb, leb, List, [], ◌∷◌, length, Some, None, IfSome, Ok, Err, Option, sym, refl, ap, ◌∙◌, subst, inl, inr, arith}
 use Rattle.std.proofs.lemmas.Bool.{lt-ltb, le-ltb, leb-true, ltb-true, ltb-false}
 use Rattle.backplane.specs.Plane.{Plane, to_cell}
 use Rattle.backplane.specs.Meaning.{Bytes, fault_of}
-use Rattle.backplane.specs.declared.fault.BackplaneFault.TheVariants.{Off, NoPlace}
+use Rattle.backplane.specs.declared.fault.BackplaneFault.TheVariants.{Off, NoPlace, Dead}
 use Rattle.layout.specs.declared.head.Head.{Head}
 use Rattle.layout.specs.declared.head.Head.TheVariants.{OfWrite, OfParity}
 use Rattle.layout.specs.Head.{head_in, record_cells}
@@ -12,7 +12,7 @@ use Rattle.model.specs.Log.{Rec, Walked, or_else, head_of, cells_of, record_from
 use Rattle.codes.specs.declared.code.Code.{Ghosts as CodeGhosts}
 use Rattle.parity_log.specs.declared.log.Log.{Log}
 use Rattle.parity_log.specs.Codes.{coding}
-use Rattle.parity_log.specs.Walks.{head_at, fold_from, rest, parity_at, last_head, last_parity, resume_at, walk_end, Over, Next}
+use Rattle.parity_log.specs.Walks.{head_at, fold_from, rest, parity_at, LastAt, last_head, last_parity, resume_at, walk_end, Over, Next}
 use Rattle.faults.specs.declared.fault.LogFault.TheVariants.{Damaged}
 
 pub cells-some : (rows : ℕ) (h : Head) → 1 ≤ record_cells rows h
@@ -212,6 +212,13 @@ module _ {B : Type 0} (K : Coding B) (p : Plane B) (u : ℕ) where
   end-damaged i l h e s =
       sym (or_else-some (walk K p u).damage (Ok (last_head K p u)) (λ i. Err (Damaged i)) i (ap (λ (w : Walked B). w.damage) (stands-damaged i l h e s)))
 
+  -- the record that was last met is the log's last
+  pub last-at : (i : ℕ) (h : Head) (l : List (Rec B)) → head_at K p u i ≡ Some h → LastAt K p u (Some i) (record_from K p i h ∷ l)
+  last-at i h l e = (record_from K p i h, l, refl, record_at-some i h e)
+
+  pub log-damaged : (i : ℕ) (l : List (Rec B)) → i ≤ u → head_at K p u i ≡ None → Stands i l → l ≡ (walk K p u).log
+  log-damaged i l h e s = sym (ap (λ (w : Walked B). w.log) (stands-damaged i l h e s))
+
   pub log-past : (i : ℕ) (l : List (Rec B)) → u < i → Stands i l → l ≡ (walk K p u).log
   log-past i l h s = sym (ap (λ (w : Walked B). w.log) (stands-past i l h s))
 
@@ -309,6 +316,27 @@ then-tests true true true e = (refl, refl, refl)
 then-tests true true false e = absurd (let z : ◌≡◌ {A = ℕ} 0 1 = cc in omega arith)
 then-tests true false c e = absurd (let z : ◌≡◌ {A = ℕ} 0 1 = cc in omega arith)
 then-tests false b c e = absurd (let z : ◌≡◌ {A = ℕ} 0 1 = cc in omega arith)
+
+-- a read into as many bytes has the same fault
+pub fault-same : (u : ℕ) (x y : List ℕ) (p : Bytes) → length x ≡ length y → fault_of (to_cell u x) p ≡ fault_of (to_cell u y) p
+fault-same u x y p e = ap (λ (n : ℕ). cond p.on (cond (ltb u p.cells && eqb n 512) (cond true None (Some Dead)) (Some NoPlace)) (Some Off)) e
+
+pub fault-kept : (u : ℕ) (x y : List ℕ) (p q : Bytes) → length x ≡ length y → q ≡ p → fault_of (to_cell u y) p ≡ None → fault_of (to_cell u x) q ≡ None
+fault-kept u x y p q e k n = fault-same u x y q e ∙ ap (fault_of (to_cell u y)) k ∙ n
+
+-- what is said of a value that is there
+pub of_some : {A : Type 0} (P : A → Type 0) (o : Option A) (x : A) → IfSome o P → o ≡ Some x → P x
+of_some P None x h e = absurd (let z : ◌≡◌ {A = ℕ} 0 1 = cc in omega arith)
+of_some P (Some y) x h e = let same : y ≡ x = cc in subst P same h
+
+-- the cell of a stripe's last parity record stays below a bound
+pub last_within : (s i : ℕ) (h : Head) (o : Option ℕ) → IfSome o (λ j. j < 4096) → i < 4096 → IfSome (parity_at s i h o) (λ j. j < 4096)
+last_within s i (OfWrite t c) o e low = e
+last_within s i (OfParity t) o e low = go (eqb s t)
+  where
+    go : (v : Bool) → IfSome (cond v (Some i) o) (λ j. j < 4096)
+    go true = low
+    go false = e
 
 pub readable : (u : ℕ) (x : List ℕ) (p : Bytes) → p.on ≡ true → u < p.cells → length x ≡ 512 → fault_of (to_cell u x) p ≡ None
 readable u x p on there size = by-tests p.on (ltb u p.cells) (eqb (length x) 512) on (lt-ltb u p.cells there) (ap (λ (n : ℕ). eqb n 512) size)

@@ -1,8 +1,9 @@
 -- A row that is read, given the pending shares and solved is the stripe's row.
-use Rattle.std.proofs.Common.{◌≡◌, ℕ, zero, suc, ◌+◌, ◌*◌, ◌<◌, ◌≤◌, Bool, true, false, cond, not, ◌&&◌, eqb, ltb, leb, List, [], ◌∷◌, ◌++◌, map, length, get_or, take, drop, sym, refl, ap, ◌∙◌, subst, add-one, arith}
+use Rattle.std.proofs.Common.{◌≡◌, ℕ, zero, suc, ◌+◌, ◌*◌, ◌<◌, ◌≤◌, Bool, true, false, cond, not, ◌&&◌, eqb, ltb, leb, List, [], ◌∷◌, ◌++◌, map, length, get_or, take, drop, set, replicate, sym, refl, ap, ◌∙◌, subst, add-one, arith}
 use Rattle.std.specs.List.{range_with_len}
 use Rattle.std.proofs.lemmas.List.FromFn.{fill_by_all, length-map-range_with_len, get_or-map-range_with_len, take-map-range_with_len, map-range_with_len_more}
-use Rattle.std.proofs.lemmas.List.{get_or-take, drop_all}
+use Rattle.std.proofs.lemmas.List.{get_or-take, drop_all, get_or-set_same, get_or-set_other, get_or-replicate, length-replicate}
+use Rattle.std.proofs.lemmas.Bool.{eqb-true, eqb-false}
 use Rattle.std.proofs.lemmas.Bool.Decides.{nat_tests}
 use Rattle.codes.specs.Code.{lost_count, solvable}
 use Rattle.layout.specs.Counts.{count}
@@ -127,3 +128,17 @@ module _ {C : Type 0} (code : CodeGhosts C) (k : ℕ) (p : Bytes) (h : Header) (
 
   pub fills-by : (n : ℕ) → n ≡ k + code.ROWS → Fills n
   fills-by n e = let P : ℕ → Type 0 = Fills in subst P (sym e) fills
+
+-- a flag for each place but one
+pub but-one : (w j c : ℕ) → c < w → flagged (set (replicate w true) j false) c ≡ not (eqb c j)
+but-one w j c h = go (eqb c j) refl
+  where
+    go : (t : Bool) → eqb c j ≡ t → flagged (set (replicate w true) j false) c ≡ not t
+    go true e =
+        let same : c ≡ j = eqb-true c j e in
+        ap (λ (i : ℕ). flagged (set (replicate w true) j false) i) same ∙ get_or-set_same (replicate w true) j false false (simp length-replicate (omega arith))
+    go false e = get_or-set_other (replicate w true) j c false false (eqb-false c j e) ∙ get_or-replicate w c true false h
+
+pub cond-not : {A : Type 0} (t : Bool) (x y : A) → cond (not t) x y ≡ cond t y x
+cond-not true x y = refl
+cond-not false x y = refl

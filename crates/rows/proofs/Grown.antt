@@ -45,7 +45,7 @@ met-below K p u i h e = head-below K.k p.blocks (K.bytes (p.cell i)) h (go (head
     go (Some a) e = kept (leb (i + record_cells K.m a) (u + 1)) a e
 
 -- the debt of a stripe is what a walk gathers after its last parity record
-debt-is : {B : Type 0} (K : Coding B) (p : Plane B) (u r s : ℕ) → debt K r s (walk K p u).log ≡ rest K (sum_step K p r s) p u (resume_at K (last_parity K p u s)) K.nil
+pub debt-is : {B : Type 0} (K : Coding B) (p : Plane B) (u r s : ℕ) → debt K r s (walk K p u).log ≡ rest K (sum_step K p r s) p u (resume_at K (last_parity K p u s)) K.nil
 debt-is K p u r s = gathered-is K p u s K.nil (debt K r s) (sum_step K p r s) refl (λ i t c l. refl) (λ i t l. refl) (λ i t x. refl)
 
 add-zeros : (x : List ℕ) → length x ≤ 512 → sum_of x zeros ≡ x

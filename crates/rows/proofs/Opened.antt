@@ -82,7 +82,7 @@ module _ {C : Type 0} (code : CodeGhosts C) (p : Bytes) (h : Header) where
         ∙ ap (λ (n : ℕ). ltb s sh.blocks && (has_room bytes cell && not (ltb code.ROWS (missing n p.live (good_of h) s)))) w
 
     pub row_fits : ltb s sh.blocks && (has_room bytes cell && not (ltb code.ROWS (missing sh.slots p.live (good_of h) s))) ≡ true
-        → OpenFits code.ROWS p h sh × (s < p.blocks) × (missing sh.slots p.live (good_of h) s ≤ code.ROWS) × (8192 ≤ bytes)
+        → OpenFits code.ROWS p h sh × (s < p.blocks) × (missing sh.slots p.live (good_of h) s ≤ code.ROWS) × (8192 ≤ bytes) × (cell ≡ 512)
     row_fits t =
         let N : Bool = not (ltb code.ROWS (missing sh.slots p.live (good_of h) s)) in
         let ab = and_parts (ltb s sh.blocks) (has_room bytes cell && N) t in
@@ -90,9 +90,10 @@ module _ {C : Type 0} (code : CodeGhosts C) (p : Bytes) (h : Header) where
         let ef = and_parts (leb 8192 bytes) (eqb cell 512) cd.0 in
         let a : ltb s sh.blocks ≡ true = ab.0 in
         let b : leb 8192 bytes ≡ true = ef.0 in
+        let d : eqb cell 512 ≡ true = ef.1 in
         let lost : not (ltb code.ROWS (missing sh.slots p.live (good_of h) s)) ≡ true = cd.1 in
         let same = f.blocks in
-        (f, grind (arith, nat_tests), low code.ROWS (missing sh.slots p.live (good_of h) s) lost, grind (arith, nat_tests))
+        (f, grind (arith, nat_tests), low code.ROWS (missing sh.slots p.live (good_of h) s) lost, grind (arith, nat_tests), grind (arith, nat_tests))
       where
         low : (m n : ℕ) → not (ltb m n) ≡ true → n ≤ m
         low m n e = go (ltb m n) refl e
