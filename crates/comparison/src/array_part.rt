@@ -314,7 +314,7 @@ impl<C: Code + Drop> Pair<'_, C> {
         if self.array.backplane.setting().is_some() || !self.reference.device.on {
             return;
         }
-        let cell = source.below(self.array.backplane.cells().min(12));
+        let cell = source.below(self.reference.device.cells().min(12) as u32);
         let mut x = self.reference.device.cell(cell as usize);
         let reach = match source.below(3) {
             0 => 8,
